@@ -1,0 +1,6 @@
+-- Laws that belong to no one function.
+pub mod Laws
+pub mod Boxes
+pub mod Linear
+pub mod Networks
+pub mod Inverse

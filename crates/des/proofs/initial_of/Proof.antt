@@ -1,0 +1,42 @@
+-- Five exchanges of bits are IP, by one test at the powers of two.
+use mathlib.Core.Path.{ap, _∙_}
+use Rattle.des.specs.Quick.{deltaSwap}
+use Rattle.des.proofs.Networks.{initial-net}
+use borrow.Author.Needs.{needs}
+use Rattle.des.proofs.initial_of.Statement.{statement}
+use Rattle.des.proofs.initial_of.Tie as tie
+
+delta-requires : tie.Need-delta-requires
+delta-requires c κs = search needs
+
+delta-requires-2 : tie.Need-delta-requires-2
+delta-requires-2 c κs = search needs
+
+delta-requires-3 : tie.Need-delta-requires-3
+delta-requires-3 c κs = search needs
+
+delta-requires-4 : tie.Need-delta-requires-4
+delta-requires-4 c κs = search needs
+
+delta-requires-5 : tie.Need-delta-requires-5
+delta-requires-5 c κs = search needs
+
+returns : tie.Need-returns
+returns c =
+    c .delta5 .ensures
+    ∙ ap (deltaSwap 33 0x55555555) (c .before .delta4 .ensures
+    ∙ ap (deltaSwap 24 0xff00ff00) (c .before .before .delta3 .ensures
+    ∙ ap (deltaSwap 30 0xcccccccc) (c .before .before .before .delta2 .ensures
+    ∙ ap (deltaSwap 48 0x0000ffff) (c .before .before .before .before .delta .ensures))))
+    ∙ initial-net _ (c .before .before .before .before .before .fits .x .fits)
+
+pub initial-of-spec : {M : Type 1} → statement M
+initial-of-spec =
+    tie.close
+    (tie.spec
+    delta-requires
+    delta-requires-2
+    delta-requires-3
+    delta-requires-4
+    delta-requires-5
+    returns)

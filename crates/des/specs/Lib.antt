@@ -1,0 +1,4 @@
+-- What the contracts of `des` cite: FIPS 46-3, and below it the forms of the quick code, which no public promise names.
+pub mod Tables
+pub mod Des
+pub mod Quick

@@ -1,0 +1,2 @@
+-- What the contracts of `des_bench` cite.
+pub mod Again

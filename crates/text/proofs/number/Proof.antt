@@ -1,0 +1,74 @@
+-- The loop has the number that the characters passed write, and 19 digits of base ten fit.
+use mathlib.Core.Path.{_≡_, sym, ap, _∙_}
+use Prim.Native.Nat.{ℕ, _≤_, _-_}
+use native.Mathlib.Omega.{arith}
+use lib.ListN.{length, take}
+use Rattle.text.specs.Numbers.{decimal}
+use Rattle.text.proofs.Base.{read-more, read-fits}
+use Rattle.text.proofs.Laws.{decimal-nil, decimals}
+use Rattle.text.proofs.Lists.{take-both}
+use Rattle.text.proofs.number.Statement.{statement}
+use Rattle.text.proofs.number.Tie as tie
+
+abbrev Inv-loop : tie.InvT-loop
+Inv-loop s n₀ i₀ n i = (i ≤ length s) × (i ≤ 19) × (n ≡ decimal (take i s))
+
+abbrev μ-loop : tie.MeasureT-loop
+μ-loop s n₀ i₀ n i = length s - i
+
+loop-holds : tie.Need-loop-holds Inv-loop μ-loop
+loop-holds c = (omega arith, omega arith, sym (decimal-nil 0))
+
+returns : tie.Need-returns Inv-loop μ-loop
+returns c =
+    c .before .before .loop .inv .2
+    ∙ ap (λ (k : ℕ). decimal (take k (c .before .before .before .before .args .s .now))) (c .if1 .taken)
+
+mul-n : tie.Need-mul-n Inv-loop μ-loop
+mul-n c =
+    let l = c .before .before .loop in
+    omega (arith, read-fits decimals _ (l .i) (l .n) (l .inv .2) (c .before .loop-test .taken) 19 (omega arith))
+
+shared-slice-read-digit-value : tie.Need-shared-slice-read-digit-value Inv-loop μ-loop
+shared-slice-read-digit-value c = omega arith
+
+digit-value-requires : tie.Need-digit-value-requires Inv-loop μ-loop
+digit-value-requires c κs = tt
+
+add-n : tie.Need-add-n Inv-loop μ-loop
+add-n c =
+    let l = c .before .before .before .before .loop in
+    omega (arith, read-fits decimals _ (l .i) (l .n) (l .inv .2) (c .before .before .before .loop-test .taken) 19 (omega arith))
+
+add-i : tie.Need-add-i Inv-loop μ-loop
+add-i c = omega arith
+
+loop-less : tie.Need-loop-less Inv-loop μ-loop
+loop-less c = omega arith
+
+loop-again : tie.Need-loop-again Inv-loop μ-loop
+loop-again c =
+    let l = c .before .before .before .before .loop in
+    (omega arith, omega arith, read-more decimals _ (l .i) (l .n) (l .inv .2) (c .before .before .before .loop-test .taken) _ (c .digit-value .ensures))
+
+returns-2 : tie.Need-returns-2 Inv-loop μ-loop
+returns-2 c =
+    c .before .loop .inv .2
+    ∙ ap decimal (take-both _ (c .before .loop .i) 19 (c .loop-test .left) (c .before .loop .inv .1))
+
+pub number-spec : {M : Type 1} → statement M
+number-spec =
+    tie.close
+    (tie.spec
+    Inv-loop
+    μ-loop
+    loop-holds
+    returns
+    mul-n
+    shared-slice-read-digit-value
+    digit-value-requires
+    add-n
+    add-i
+    loop-less
+    loop-again
+    returns-2)

@@ -1,0 +1,3 @@
+-- What the contracts of `text` cite.
+pub mod Characters
+pub mod Numbers
