@@ -1,3 +1,4 @@
 -- What the contracts of `text` cite.
 pub mod Characters
 pub mod Numbers
+pub mod Letters

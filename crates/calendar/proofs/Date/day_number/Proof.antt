@@ -1,0 +1,66 @@
+-- `calendar::Date::day_number` meets its contract: the years and months before the date are few enough for the sum to fit.
+-- Assumes nothing.
+use Prim.Native.Nat.{_+_, _/_, _%_, _<_}
+use Rattle.calendar.proofs.Months.{years-le, months-le}
+use Rattle.calendar.proofs.Days.{number-is}
+use native.Mathlib.Omega.{arith}
+use borrow.Author.Needs.{needs}
+use Rattle.calendar.proofs.Date.day_number.Statement.{statement}
+use Rattle.calendar.proofs.Date.day_number.Tie as tie
+
+cast-d : tie.Need-cast-d
+cast-d c = search needs
+
+add-n : tie.Need-add-n
+add-n c = search needs
+
+years-before-requires : tie.Need-years-before-requires
+years-before-requires c κs = search needs
+
+add-months-before : tie.Need-add-months-before
+add-months-before c = search needs
+
+months-before-requires : tie.Need-months-before-requires
+months-before-requires c κs = search needs
+
+-- the years and months are few
+few : (c : tie.After-months-before) → c .before .years-before .result + c .months-before .result < 40000
+few c =
+    let d = c .before .before .before .args .self .yymmdd in
+    omega (
+      arith,
+      c .before .years-before .ensures,
+      c .months-before .ensures,
+      years-le ((d / 10000 + 20) % 100),
+      months-le (1980 + (d / 10000 + 20) % 100) (d / 100 % 100),
+    )
+
+add-days : tie.Need-add-days
+add-days c = omega (arith, few c)
+
+add-days-2 : tie.Need-add-days-2
+add-days-2 c = omega (arith, few c)
+
+returns : tie.Need-returns
+returns c = omega (arith, number-is (c .before .before .before .before .args .self .yymmdd), c .before .before .years-before .ensures, c .before .months-before .ensures)
+
+sub-result : tie.Need-sub-result
+sub-result c = search needs
+
+returns-2 : tie.Need-returns-2
+returns-2 c = omega (arith, number-is (c .before .before .before .before .args .self .yymmdd), c .before .before .years-before .ensures, c .before .months-before .ensures)
+
+pub day-number-spec : {M : Type 1} → statement M
+day-number-spec =
+    tie.close
+    (tie.spec
+    cast-d
+    add-n
+    years-before-requires
+    add-months-before
+    months-before-requires
+    add-days
+    add-days-2
+    returns
+    sub-result
+    returns-2)

@@ -1,0 +1,19 @@
+-- `calendar::Date::weekday_of` meets its contract: the number of any date is far below what would wrap.
+-- Assumes nothing.
+use Rattle.calendar.proofs.Days.{number-below}
+use native.Mathlib.Omega.{arith}
+use borrow.Author.Needs.{needs}
+use Rattle.calendar.proofs.Date.weekday_of.Statement.{statement}
+use Rattle.calendar.proofs.Date.weekday_of.Tie as tie
+
+day-number-requires : tie.Need-day-number-requires
+day-number-requires c κs = search needs
+
+add-result : tie.Need-add-result
+add-result c = omega (arith, number-below (c .before .args .self .yymmdd), c .day-number .ensures)
+
+returns : tie.Need-returns
+returns c = search needs
+
+pub weekday-of-spec : {M : Type 1} → statement M
+weekday-of-spec = tie.close (tie.spec day-number-requires add-result returns)

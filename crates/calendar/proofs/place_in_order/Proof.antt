@@ -1,0 +1,14 @@
+-- `calendar::place_in_order` meets its contract: a million more or less leaves a place in order.
+-- Assumes nothing.
+use native.Mathlib.Omega.{arith}
+use Rattle.calendar.proofs.place_in_order.Statement.{statement}
+use Rattle.calendar.proofs.place_in_order.Tie as tie
+
+add-result : tie.Need-add-result
+add-result c = omega arith
+
+returns : tie.Need-returns
+returns c = omega arith
+
+pub place-in-order-spec : {M : Type 1} → statement M
+place-in-order-spec = tie.close (tie.spec add-result returns)

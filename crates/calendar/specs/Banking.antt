@@ -1,0 +1,40 @@
+-- Banking days, and stamps that are too old (document 01, 'Order of checks', 1015).
+-- Assumes nothing.
+use Prim.Native.Nat.{ℕ, zero, suc, _+_, _-_, _%_}
+use mathlib.Core.Bool.{Bool}
+use mathlib.Core.List.{List}
+use lib.Dec.{ltb}
+use Rattle.ground.specs.Choice.{both, fails, pick, one}
+use Rattle.ground.specs.Lists.{member}
+use Rattle.calendar.specs.Dates.{dayNumber, dateOf}
+
+-- 0 is Monday and 6 Sunday; day 0, 800101, was a Tuesday
+abbrev pub weekday : ℕ → ℕ
+weekday k = (k + 1) % 7
+
+-- day k is Monday to Friday and not among the holidays
+unfoldable pub bankingDay : List ℕ → ℕ → Bool
+bankingDay holidays k = both (ltb (weekday k) 5) (fails (member (dateOf k) holidays))
+
+-- how many of the n days after day k are banking days
+unfoldable pub bankingAmong : List ℕ → ℕ → ℕ → ℕ
+bankingAmong holidays k zero = 0
+bankingAmong holidays k (suc n) = one (bankingDay holidays (k + 1)) + bankingAmong holidays (k + 1) n
+
+-- the banking days that lie after the date s and up to the date t
+unfoldable pub bankingDaysAfter : List ℕ → ℕ → ℕ → ℕ
+bankingDaysAfter holidays s t = bankingAmong holidays (dayNumber s) (dayNumber t - dayNumber s)
+
+-- more than five banking days lie after the stamp's date and up to today
+unfoldable pub tooOld : List ℕ → ℕ → ℕ → Bool
+tooOld holidays s today = ltb 5 (bankingDaysAfter holidays s today)
+
+-- the first day from k on, of n further ones, that is not too old on the day t
+unfoldable pub firstGood : List ℕ → ℕ → ℕ → ℕ → ℕ
+firstGood holidays t k zero = k
+firstGood holidays t k (suc n) =
+    pick (ltb 5 (bankingAmong holidays k (t - k))) (firstGood holidays t (k + 1) n) k
+
+-- the earliest date that is not too old today: one search answers for every stamp
+unfoldable pub earliestGood : List ℕ → ℕ → ℕ
+earliestGood holidays today = dateOf (firstGood holidays (dayNumber today) 0 (dayNumber today))

@@ -1,0 +1,4 @@
+-- Laws that belong to no one function.
+pub mod Folds
+pub mod Macs
+pub mod Batches

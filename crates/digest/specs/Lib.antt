@@ -1,0 +1,4 @@
+-- What the contracts of `digest` cite.
+pub mod Mac
+pub mod Kept
+pub mod Running

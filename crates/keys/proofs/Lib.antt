@@ -1,0 +1,4 @@
+-- Laws that belong to no one function.
+pub mod Odd
+pub mod Laws
+pub mod Lent
