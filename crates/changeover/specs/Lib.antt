@@ -1,0 +1,3 @@
+-- What the contracts of `changeover` cite.
+pub mod Held
+pub mod Changes

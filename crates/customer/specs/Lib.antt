@@ -1,0 +1,3 @@
+-- What the contracts of `customer` cite.
+pub mod Customer
+pub mod Settings
