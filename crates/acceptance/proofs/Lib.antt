@@ -1,0 +1,6 @@
+-- Laws that belong to no one function.
+pub mod Digits
+pub mod Room
+pub mod Lives
+pub mod Grants
+pub mod Purge

@@ -1,0 +1,48 @@
+-- The new stamp stands behind those that are live, where there is a place left.
+use mathlib.Core.Logic.{⊎-elim}
+use Rattle.acceptance.proofs.Lives.{marked-more, marked-full}
+use borrow.Author.Needs.{needs}
+use Rattle.acceptance.proofs.with_stamp.Statement.{statement}
+use Rattle.acceptance.proofs.with_stamp.Tie as tie
+
+keep-live-requires : tie.Need-keep-live-requires
+keep-live-requires c κs = search needs
+
+cast-n : tie.Need-cast-n
+cast-n c = search needs
+
+mul-stamps : tie.Need-mul-stamps
+mul-stamps c = search needs
+
+array-write-stamps : tie.Need-array-write-stamps
+array-write-stamps c = search needs
+
+mul-beside : tie.Need-mul-beside
+mul-beside c = search needs
+
+array-write-beside : tie.Need-array-write-beside
+array-write-beside c = search needs
+
+add-t20 : tie.Need-add-t20
+add-t20 c = search needs
+
+returns : tie.Need-returns
+returns c =
+    let i = c .before .before .before in
+    let k = i .before .before .before .keep-live .ensures in
+    ⊎-elim (λ w. marked-more _ _ _ _ _ _ _ _ _ _ (k .0) (k .1) (w .0 .taken) (w .1) (w .2))
+    (λ w. marked-full _ _ _ _ _ _ _ _ _ _ (k .0) (k .1) (w .0 .left) (w .1) (w .2))
+    (i .if1 .came)
+
+pub with-stamp-spec : {M : Type 1} → statement M
+with-stamp-spec =
+    tie.close
+    (tie.spec
+    keep-live-requires
+    cast-n
+    mul-stamps
+    array-write-stamps
+    mul-beside
+    array-write-beside
+    add-t20
+    returns)

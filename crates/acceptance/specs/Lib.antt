@@ -1,0 +1,3 @@
+-- What the contracts of `acceptance` cite.
+pub mod Stamps
+pub mod Grants

@@ -1,0 +1,5 @@
+-- Laws that belong to no one function.
+pub mod Places
+pub mod Tests
+pub mod Stamps
+pub mod Laws

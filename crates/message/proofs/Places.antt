@@ -1,0 +1,128 @@
+-- Where the fields stand: each begins where those before it end, which is computed for all of them, and what is read there.
+-- Assumes nothing.
+use mathlib.Core.Path.{_≡_, ap, _∙_}
+use mathlib.Core.List.{List, [], _∷_, _++_, map, append-nil}
+use Prim.Native.Nat.{ℕ, zero, suc, _+_, _-_, _^_, _≤_, _<_, zero-le}
+use native.Mathlib.Nat.{not-suc-le-zero, le-of-suc-le-suc, le-trans, lt-of-lt-of-le, pow-le-pow-right}
+use native.Mathlib.Numerals.{add-one}
+use native.Mathlib.Omega.{arith}
+use borrow.Author.Tests.{eqb-true}
+use lib.Dec.{T, eqb, lit<, lit≤}
+use lib.ListN.{length, getD, take, drop, length-take, length-drop, drop-of-length-le}
+use lib.Seq.{take-all, take-nil, length-take-le}
+use Rattle.ground.specs.Choice.{both, pick}
+use Rattle.ground.specs.Lists.{part, overlay}
+use Rattle.ground.proofs.Table as table
+use Rattle.text.specs.Numbers.{decimal, hex}
+use Rattle.text.proofs.Lists.{passed, each}
+use Rattle.text.proofs.Laws.{decimal-lt}
+use Rattle.message.specs.Layout.{Field, field, fields, total, offsetIn, widthIn, fieldText}
+
+-- a table that agrees with a rule at each place
+pub ruled : (f : ℕ → ℕ) (n k : ℕ) → k < n → (xs : List ℕ) → length xs ≡ n → T (table.every (λ k x. eqb x (f k)) 0 xs) → getD xs k 0 ≡ f k
+ruled f n k h xs e t =
+    eqb-true (getD xs k 0) (f k)
+    (passed (eqb (getD xs k 0) (f k)) (table.at (λ k x. eqb x (f k)) xs t k (rw e h)))
+
+-- the number of the field at a place
+abbrev pub numberAt : ℕ → ℕ
+numberAt i = getD fields i (field 0 "" 0) .number
+
+-- the tables of the fields' numbers and of their places
+abbrev pub numbers : List ℕ
+numbers = map (λ f. f .number) (take 22 fields)
+
+abbrev pub starts : List ℕ
+starts = map (λ f. offsetIn (f .number) fields) (take 23 fields)
+
+-- ---- places
+
+rises : (l : List Field) (i j : ℕ) → i ≤ j → total (take i l) ≤ total (take j l)
+unfolding total
+rises [] i j h = rw (take-nil {A = Field} i) (zero-le)
+rises (f ∷ l) zero j h = zero-le
+rises (f ∷ l) (suc i) zero h = absurd (not-suc-le-zero h)
+rises (f ∷ l) (suc i) (suc j) h = omega (arith, rises l i j (le-of-suc-le-suc h))
+
+pub ordered : (i j : ℕ) {a e : ℕ} → i ≤ j → a ≡ total (take i fields) → e ≡ total (take j fields) → a ≤ e
+ordered i j h p q = rw (p, q) (rises fields i j h)
+
+pub within : (j : ℕ) {e : ℕ} → j ≤ 22 → e ≡ total (take j fields) → e ≤ 161
+unfolding total
+within j h q = rw q (rises fields j 22 h)
+
+-- the two rules of a field's place, computed
+begins : (i : ℕ) → i < 22 → offsetIn (numberAt i) fields ≡ total (take i fields)
+unfolding both pick offsetIn total
+begins i h =
+    eqb-true _ _ (each (λ k. eqb (offsetIn (numberAt k) fields) (total (take k fields))) 22 tt i h)
+
+wide : (i : ℕ) → i < 22 → widthIn (numberAt i) fields ≡ total (take (suc i) fields) - total (take i fields)
+unfolding both pick widthIn total
+wide i h =
+    eqb-true _ _ (each (λ k. eqb (widthIn (numberAt k) fields) (total (take (suc k) fields) - total (take k fields))) 22 tt i h)
+
+pub placed : (i : ℕ) (m : List ℕ) → i < 22
+    → part (total (take i fields)) (total (take (i + 1) fields) - total (take i fields)) m ≡ fieldText (numberAt i) m
+unfolding fieldText
+placed i m h = rw (add-one i, begins i h, wide i h)
+
+-- ---- what is read at a place
+
+part-length : (at w : ℕ) (m : List ℕ) → length (part at w m) ≤ w
+unfolding part
+part-length at w m = rw length-take (omega arith)
+
+pub part-full : (at w : ℕ) (m : List ℕ) → at + w ≤ length m → length (part at w m) ≡ w
+unfolding part
+part-full at w m h = length-take-le w (drop at m) (omega (arith, length-drop at m))
+
+pub narrow : (n : ℕ) (m : List ℕ) → length (fieldText n m) ≤ widthIn n fields
+unfolding fieldText
+narrow n m = part-length (offsetIn n fields) (widthIn n fields) m
+
+-- a text that is short enough is read whole, and at most nine digits fit in 32 bits
+module _ (text : List ℕ) (r : ℕ) where
+  pub number-whole : length text ≤ 19 → r ≡ decimal (take 19 text) → r ≡ decimal text
+  number-whole h q = q ∙ ap decimal (take-all 19 text h)
+
+  pub hex-whole : length text ≤ 16 → r ≡ hex (take 16 text) → r ≡ hex text
+  hex-whole h q = q ∙ ap hex (take-all 16 text h)
+
+  pub number-fits : length text ≤ 9 → r ≡ decimal (take 19 text) → r < 2 ^ 32
+  number-fits h q =
+      rw (number-whole (omega arith) q)
+      (lt-of-lt-of-le (decimal-lt text) (le-trans (pow-le-pow-right (lit< tt) h) (lit≤ tt)))
+
+-- the same of the text of a field that is named v
+module _ (v n : ℕ) (text : List ℕ) (e : n ≡ v) (h : length text ≤ widthIn n fields) (r : ℕ) (q : r ≡ decimal (take 19 text)) where
+  pub named-whole : widthIn v fields ≤ 19 → r ≡ decimal text
+  named-whole w = number-whole text r (le-trans (rw e at h) w) q
+
+  pub named-fits : widthIn v fields ≤ 9 → r < 2 ^ 32
+  named-fits w = number-fits text r (le-trans (rw e at h) w) q
+
+-- the same of what a span lends
+module _ (at w : ℕ) (s m : List ℕ) (e : s ≡ part at w m) where
+  s-length : length s ≤ w
+  s-length = rw e (part-length at w m)
+
+  pub numbered : (r : ℕ) → w ≤ 19 → r ≡ decimal (take 19 s) → r ≡ decimal (part at w m)
+  numbered r h q = number-whole s r (le-trans s-length h) q ∙ ap decimal e
+
+  pub hexed : (r : ℕ) → w ≤ 16 → r ≡ hex (take 16 s) → r ≡ hex (part at w m)
+  hexed r h q = hex-whole s r (le-trans s-length h) q ∙ ap hex e
+
+  pub fitting : (r : ℕ) → w ≤ 9 → r ≡ decimal (take 19 s) → r < 2 ^ 32
+  fitting r h q = number-fits s r (le-trans s-length h) q
+
+  -- written over as much room
+  pub copied : (out d : List ℕ) → out ≡ overlay s d → length d ≡ w → at + w ≤ length m → out ≡ part at w m
+  unfolding overlay
+  copied out d q p h =
+      let l : length s ≡ w = ap length e ∙ part-full at w m h in
+      q
+      ∙ ap (λ (t : List ℕ). take (length d) s ++ t) (drop-of-length-le d {i = length s} (omega arith))
+      ∙ append-nil (take (length d) s)
+      ∙ take-all (length d) s (omega arith)
+      ∙ e

@@ -1,0 +1,175 @@
+-- Each arm makes the test of the rule that names the field, and no rule names any other.
+use mathlib.Core.Path.{refl, ap, ap₂, _∙_}
+use mathlib.Core.Logic.{⊎-elim, inl, inr}
+use lib.Dec.{eqb, lit≤}
+use Rattle.ground.specs.Choice.{both, either, fails, pick}
+use Rattle.text.specs.Letters.{letters}
+use Rattle.calendar.specs.Dates.{realDate, realTime}
+use Rattle.message.specs.Layout.{widthIn}
+use Rattle.message.specs.Rules.{commonRules, obeys}
+use Rattle.message.proofs.Places.{named-whole, named-fits}
+use Rattle.message.proofs.Tests.{asked, unasked, not-fails}
+use borrow.Author.Needs.{needs}
+use Rattle.message.proofs.common_holds.Statement.{statement}
+use Rattle.message.proofs.common_holds.Tie as tie
+
+number-requires : tie.Need-number-requires
+number-requires c κs = search needs
+
+length-of-requires : tie.Need-length-of-requires
+length-of-requires c κs = search needs
+
+slice-aggregate-one-of : tie.Need-slice-aggregate-one-of
+slice-aggregate-one-of c = search needs
+
+slice-aggregate-one-of-2 : tie.Need-slice-aggregate-one-of-2
+slice-aggregate-one-of-2 c = search needs
+
+one-of-requires : tie.Need-one-of-requires
+one-of-requires c κs = search needs
+
+all-blank-requires : tie.Need-all-blank-requires
+all-blank-requires c κs = search needs
+
+slice-aggregate-same-bytes : tie.Need-slice-aggregate-same-bytes
+slice-aggregate-same-bytes c = search needs
+
+same-bytes-requires : tie.Need-same-bytes-requires
+same-bytes-requires c κs = search needs
+
+all-blank-requires-2 : tie.Need-all-blank-requires-2
+all-blank-requires-2 c κs = search needs
+
+method-holds-requires : tie.Need-method-holds-requires
+method-holds-requires c κs = search needs
+
+number-requires-2 : tie.Need-number-requires-2
+number-requires-2 c κs = search needs
+
+cast-t20 : tie.Need-cast-t20
+unfolding widthIn pick
+cast-t20 c =
+    record
+    { fits = named-fits 121 _ (c .before .before .before .args .text .now) (c .before .match .keys7) (c .before .before .before .pre) _ (c .number2 .ensures) (lit≤ tt) }
+
+is-real-requires : tie.Need-is-real-requires
+is-real-requires c κs = search needs
+
+number-requires-3 : tie.Need-number-requires-3
+number-requires-3 c κs = search needs
+
+cast-is-real-time : tie.Need-cast-is-real-time
+unfolding widthIn pick
+cast-is-real-time c =
+    record
+    { fits = named-fits 122 _ (c .before .before .before .args .text .now) (c .before .match .keys8) (c .before .before .before .pre) _ (c .number3 .ensures) (lit≤ tt) }
+
+is-real-time-requires : tie.Need-is-real-time-requires
+is-real-time-requires c κs = search needs
+
+returns : tie.Need-returns
+unfolding commonRules obeys both either fails widthIn pick
+returns c =
+    ap₂ eqb
+    (named-whole 20 _ _ (c .before .before .match .keys1) (c .before .before .before .before .pre) _ (c .before .number .ensures) (lit≤ tt))
+    (c .length-of .ensures)
+    ∙ asked commonRules _ _ _ _ refl 20 _ (c .before .before .match .keys1) refl
+
+returns-2 : tie.Need-returns-2
+unfolding commonRules letters obeys both either fails
+returns-2 c = c .one-of .ensures ∙ asked commonRules _ _ _ _ refl 30 _ (c .before .before .before .match .keys2) refl
+
+returns-3 : tie.Need-returns-3
+unfolding commonRules obeys both either fails
+returns-3 c =
+    c .all-blank .ensures
+    ∙ ⊎-elim (λ e. asked commonRules _ _ _ _ refl 40 _ e refl) (λ e. asked commonRules _ _ _ _ refl 140 _ e refl) (c .before .match .keys3)
+
+returns-4 : tie.Need-returns-4
+unfolding commonRules letters obeys both either fails
+returns-4 c = c .same-bytes .ensures ∙ asked commonRules _ _ _ _ refl 50 _ (c .before .before .match .keys4) refl
+
+returns-5 : tie.Need-returns-5
+unfolding commonRules obeys both either fails
+returns-5 c =
+    not-fails (c .all-blank2 .result)
+    ∙ ap fails (c .all-blank2 .ensures)
+    ∙ asked commonRules _ _ _ _ refl 60 _ (c .before .match .keys5) refl
+
+returns-6 : tie.Need-returns-6
+unfolding commonRules obeys both either fails
+returns-6 c = c .method-holds .ensures ∙ asked commonRules _ _ _ _ refl 70 _ (c .before .match .keys6) refl
+
+returns-7 : tie.Need-returns-7
+unfolding commonRules obeys both either fails widthIn pick
+returns-7 c =
+    c .is-real .ensures
+    ∙ ap realDate
+    (named-whole 121 _ _ (c .before .before .match .keys7) (c .before .before .before .before .pre) _ (c .before .number2 .ensures) (lit≤ tt))
+    ∙ asked commonRules _ _ _ _ refl 121 _ (c .before .before .match .keys7) refl
+
+returns-8 : tie.Need-returns-8
+unfolding commonRules obeys both either fails widthIn pick
+returns-8 c =
+    c .is-real-time .ensures
+    ∙ ap realTime
+    (named-whole 122 _ _ (c .before .before .match .keys8) (c .before .before .before .before .pre) _ (c .before .number3 .ensures) (lit≤ tt))
+    ∙ asked commonRules _ _ _ _ refl 122 _ (c .before .before .match .keys8) refl
+
+returns-9 : tie.Need-returns-9
+unfolding commonRules
+returns-9 c = unasked commonRules _ _ _ _ refl (
+  c .match .rest .0 .0 .0 .0 .0 .0 .0 .1,
+  (
+    c .match .rest .0 .0 .0 .0 .0 .0 .1,
+    (
+      λ e. c .match .rest .0 .0 .0 .0 .0 .1 (inl e),
+      (
+        c .match .rest .0 .0 .0 .0 .1,
+        (
+          c .match .rest .0 .0 .0 .1,
+          (
+            c .match .rest .0 .0 .1,
+            (
+              c .match .rest .0 .1,
+              (
+                c .match .rest .1,
+                (λ e. c .match .rest .0 .0 .0 .0 .0 .1 (inr e), tt),
+              ),
+            ),
+          ),
+        ),
+      ),
+    ),
+  ),
+)
+
+pub common-holds-spec : {M : Type 1} → statement M
+common-holds-spec =
+    tie.close
+    (tie.spec
+    number-requires
+    length-of-requires
+    slice-aggregate-one-of
+    slice-aggregate-one-of-2
+    one-of-requires
+    all-blank-requires
+    slice-aggregate-same-bytes
+    same-bytes-requires
+    all-blank-requires-2
+    method-holds-requires
+    number-requires-2
+    cast-t20
+    is-real-requires
+    number-requires-3
+    cast-is-real-time
+    is-real-time-requires
+    returns
+    returns-2
+    returns-3
+    returns-4
+    returns-5
+    returns-6
+    returns-7
+    returns-8
+    returns-9)

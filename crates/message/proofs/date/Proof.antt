@@ -1,0 +1,29 @@
+-- The span is the field, whose digits are read whole.
+use lib.Dec.{lit≤}
+use Rattle.ground.specs.Choice.{pick}
+use Rattle.message.specs.Layout.{fieldText, offsetIn, widthIn, total}
+use Rattle.message.specs.Fields.{dateOfStamp}
+use Rattle.message.proofs.Places.{numbered, fitting}
+use borrow.Author.Needs.{needs}
+use Rattle.message.proofs.date.Statement.{statement}
+use Rattle.message.proofs.date.Tie as tie
+
+slice-aggregate-span : tie.Need-slice-aggregate-span
+slice-aggregate-span c = search needs
+
+span-requires : tie.Need-span-requires
+span-requires c κs = search needs
+
+number-requires : tie.Need-number-requires
+number-requires c κs = search needs
+
+cast-t7 : tie.Need-cast-t7
+unfolding total
+cast-t7 c = record { fits = fitting 87 6 _ _ (c .before .span .ensures) _ (lit≤ tt) (c .number .ensures) }
+
+returns : tie.Need-returns
+unfolding dateOfStamp fieldText offsetIn widthIn total pick
+returns c = numbered 87 6 _ _ (c .before .span .ensures) _ (lit≤ tt) (c .number .ensures)
+
+pub date-spec : {M : Type 1} → statement M
+date-spec = tie.close (tie.spec slice-aggregate-span span-requires number-requires cast-t7 returns)

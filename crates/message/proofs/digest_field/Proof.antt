@@ -1,0 +1,26 @@
+-- The span is the field, whose hex digits are read whole.
+use lib.Dec.{lit≤}
+use Rattle.ground.specs.Choice.{pick}
+use Rattle.message.specs.Layout.{fieldText, offsetIn, widthIn, total}
+use Rattle.message.specs.Fields.{digestFieldOf}
+use Rattle.message.proofs.Places.{hexed}
+use borrow.Author.Needs.{needs}
+use Rattle.message.proofs.digest_field.Statement.{statement}
+use Rattle.message.proofs.digest_field.Tie as tie
+
+slice-aggregate-span : tie.Need-slice-aggregate-span
+slice-aggregate-span c = search needs
+
+span-requires : tie.Need-span-requires
+span-requires c κs = search needs
+
+hex-number-requires : tie.Need-hex-number-requires
+hex-number-requires c κs = search needs
+
+returns : tie.Need-returns
+unfolding digestFieldOf fieldText offsetIn widthIn total pick
+returns c = hexed 128 16 _ _ (c .before .span .ensures) _ (lit≤ tt) (c .hex-number .ensures)
+
+pub digest-field-spec : {M : Type 1} → statement M
+digest-field-spec =
+    tie.close (tie.spec slice-aggregate-span span-requires hex-number-requires returns)

@@ -1,0 +1,95 @@
+-- The fields passed all hold, so the rest decides.
+use mathlib.Core.Path.{_≡_, refl}
+use Prim.Native.Nat.{_≤_, _<_, _-_}
+use native.Mathlib.Omega.{arith}
+use borrow.Author.Tests.{not-true, not-false}
+use lib.ListN.{drop}
+use Rattle.ground.specs.Choice.{pick}
+use Rattle.message.specs.Layout.{layout}
+use Rattle.message.specs.Rules.{formatHolds, valueHolds, firstBroken}
+use Rattle.message.proofs.Places.{placed, narrow}
+use Rattle.message.proofs.Tests.{few, stops, goes-on, ends}
+use Rattle.message.proofs.first_broken.Statement.{statement}
+use Rattle.message.proofs.first_broken.Tie as tie
+
+abbrev Inv-loop : tie.InvT-loop
+Inv-loop values code k blank-over m count i₀ i =
+    (i ≤ count)
+    × (firstBroken (pick values (valueHolds k) (formatHolds k blank-over)) code (layout k) m
+    ≡ firstBroken (pick values (valueHolds k) (formatHolds k blank-over)) code (drop i (layout k)) m)
+
+abbrev μ-loop : tie.MeasureT-loop
+μ-loop values code k blank-over m count i₀ i = count - i
+
+count-of-requires : tie.Need-count-of-requires Inv-loop μ-loop
+count-of-requires c κs = tt
+
+loop-holds : tie.Need-loop-holds Inv-loop μ-loop
+loop-holds c = (omega arith, refl)
+
+number-of-requires : tie.Need-number-of-requires Inv-loop μ-loop
+number-of-requires c κs = omega (arith, few (c .before .before .before .before .args .k), c .before .before .count-of .ensures)
+
+add-span : tie.Need-add-span Inv-loop μ-loop
+add-span c = omega (arith, few (c .before .before .before .before .before .args .k), c .before .before .before .count-of .ensures)
+
+span-requires : tie.Need-span-requires Inv-loop μ-loop
+span-requires c κs = (
+  omega arith,
+  omega (arith, few (c .before .before .before .before .before .args .k), c .before .before .before .count-of .ensures),
+  c .before .before .before .before .before .pre,
+)
+
+passes-requires : tie.Need-passes-requires Inv-loop μ-loop
+passes-requires c κs =
+    let h : c .before .before .before .loop .i < 22 = omega
+    (arith, few (c .before .before .before .before .before .before .args .k), c .before .before .before .before .count-of .ensures) in
+    rw (c .before .number-of .ensures, c .span .ensures, placed _ _ h) (narrow _ _)
+
+returns : tie.Need-returns Inv-loop μ-loop
+returns c =
+    stops _ _ _ _ _ _ (c .before .before .before .before .before .before .count-of .ensures)
+    (c .before .before .before .before .before .loop .inv .1) (c .before .before .before .before .loop-test .taken) _ _ _
+    (c .before .before .before .number-of .ensures) (c .before .before .span .ensures) (c .before .passes .ensures)
+    (not-true _ (c .if1 .taken))
+
+add-i : tie.Need-add-i Inv-loop μ-loop
+add-i c =
+    omega (
+      arith,
+      few (c .before .before .before .before .before .before .before .before .args .k),
+      c .before .before .before .before .before .before .count-of .ensures,
+    )
+
+loop-less : tie.Need-loop-less Inv-loop μ-loop
+loop-less c = omega arith
+
+loop-again : tie.Need-loop-again Inv-loop μ-loop
+loop-again c = (
+  omega arith,
+  goes-on _ _ _ _ _ _ (c .before .before .before .before .before .before .count-of .ensures)
+      (c .before .before .before .before .before .loop .inv .1) (c .before .before .before .before .loop-test .taken) _ _ _
+      (c .before .before .before .number-of .ensures) (c .before .before .span .ensures) (c .before .passes .ensures)
+      (not-false _ (c .if1 .left)),
+)
+
+returns-2 : tie.Need-returns-2 Inv-loop μ-loop
+returns-2 c = ends _ _ _ _ _ _ (c .before .before .count-of .ensures) (c .before .loop .inv .1) (c .loop-test .left)
+
+pub first-broken-spec : {M : Type 1} → statement M
+first-broken-spec =
+    tie.close
+    (tie.spec
+    Inv-loop
+    μ-loop
+    count-of-requires
+    loop-holds
+    number-of-requires
+    add-span
+    span-requires
+    passes-requires
+    returns
+    add-i
+    loop-less
+    loop-again
+    returns-2)

@@ -1,0 +1,120 @@
+-- Each arm makes the test of the rule that names the field, and no rule names any other.
+use mathlib.Core.Path.{refl, _∙_}
+use mathlib.Core.Logic.{⊎-elim, inl, inr}
+use Rattle.ground.specs.Choice.{both, either, fails}
+use Rattle.text.specs.Letters.{letters}
+use Rattle.message.specs.Rules.{ownRules, obeys}
+use Rattle.message.proofs.Tests.{asked, unasked}
+use borrow.Author.Needs.{needs}
+use Rattle.message.proofs.own_holds.Statement.{statement}
+use Rattle.message.proofs.own_holds.Tie as tie
+
+enum-told : tie.Need-enum-told
+enum-told c = search needs
+
+all-blank-requires : tie.Need-all-blank-requires
+all-blank-requires c κs = search needs
+
+request-holds-requires : tie.Need-request-holds-requires
+request-holds-requires c κs = search needs
+
+enum-told-2 : tie.Need-enum-told-2
+enum-told-2 c = search needs
+
+slice-aggregate-one-of : tie.Need-slice-aggregate-one-of
+slice-aggregate-one-of c = search needs
+
+slice-aggregate-one-of-2 : tie.Need-slice-aggregate-one-of-2
+slice-aggregate-one-of-2 c = search needs
+
+one-of-requires : tie.Need-one-of-requires
+one-of-requires c κs = search needs
+
+enum-told-3 : tie.Need-enum-told-3
+enum-told-3 c = search needs
+
+slice-aggregate-one-of-3 : tie.Need-slice-aggregate-one-of-3
+slice-aggregate-one-of-3 c = search needs
+
+slice-aggregate-one-of-4 : tie.Need-slice-aggregate-one-of-4
+slice-aggregate-one-of-4 c = search needs
+
+one-of-requires-2 : tie.Need-one-of-requires-2
+one-of-requires-2 c κs = search needs
+
+request-holds-requires-2 : tie.Need-request-holds-requires-2
+request-holds-requires-2 c κs = search needs
+
+returns : tie.Need-returns
+unfolding ownRules obeys both either fails
+returns c =
+    c .all-blank .ensures
+    ∙ ⊎-elim (λ e. asked ownRules _ _ _ _ (c .before .before .enum-told .given .1) 130 _ e refl)
+    (⊎-elim (λ e. asked ownRules _ _ _ _ (c .before .before .enum-told .given .1) 150 _ e refl) (λ e. asked ownRules _ _ _ _ (c .before .before .enum-told .given .1) 160 _ e refl))
+    (c .before .match2 .keys1)
+
+returns-2 : tie.Need-returns-2
+unfolding ownRules obeys both either fails
+returns-2 c = c .request-holds .ensures ∙ asked ownRules _ _ _ _ (c .before .before .enum-told .given .1) 180 _ (c .before .match2 .keys2) refl
+
+returns-3 : tie.Need-returns-3
+unfolding ownRules
+returns-3 c = unasked ownRules _ _ _ _ (c .before .enum-told .given .1) (
+  λ e. c .match2 .rest .0 .1 (inl e),
+  (
+    λ e. c .match2 .rest .0 .1 (inr (inl e)),
+    (
+      λ e. c .match2 .rest .0 .1 (inr (inr e)),
+      (c .match2 .rest .1, tt),
+    ),
+  ),
+)
+
+returns-4 : tie.Need-returns-4
+unfolding ownRules letters obeys both either fails
+returns-4 c =
+    c .one-of .ensures
+    ∙ asked ownRules _ _ _ _ (c .before .before .before .before .enum-told2 .given .1) 130 _ (c .before .before .before .match3 .keys1) refl
+
+returns-5 : tie.Need-returns-5
+unfolding ownRules
+returns-5 c = unasked ownRules _ _ _ _ (c .before .enum-told2 .given .1) (c .match3 .rest .1, tt)
+
+returns-6 : tie.Need-returns-6
+unfolding ownRules letters obeys both either fails
+returns-6 c =
+    c .one-of2 .ensures
+    ∙ asked ownRules _ _ _ _ (c .before .before .before .before .enum-told3 .given .1) 130 _ (c .before .before .before .match4 .keys1) refl
+
+returns-7 : tie.Need-returns-7
+unfolding ownRules obeys both either fails
+returns-7 c = c .request-holds2 .ensures ∙ asked ownRules _ _ _ _ (c .before .before .enum-told3 .given .1) 180 _ (c .before .match4 .keys2) refl
+
+returns-8 : tie.Need-returns-8
+unfolding ownRules
+returns-8 c = unasked ownRules _ _ _ _ (c .before .enum-told3 .given .1) (c .match4 .rest .0 .1, (c .match4 .rest .1, tt))
+
+pub own-holds-spec : {M : Type 1} → statement M
+own-holds-spec =
+    tie.close
+    (tie.spec
+    enum-told
+    all-blank-requires
+    request-holds-requires
+    enum-told-2
+    slice-aggregate-one-of
+    slice-aggregate-one-of-2
+    one-of-requires
+    enum-told-3
+    slice-aggregate-one-of-3
+    slice-aggregate-one-of-4
+    one-of-requires-2
+    request-holds-requires-2
+    returns
+    returns-2
+    returns-3
+    returns-4
+    returns-5
+    returns-6
+    returns-7
+    returns-8)

@@ -1,0 +1,25 @@
+-- The common rules decide where they fail, else the kind's own.
+use mathlib.Core.Path.{sym, _∙_}
+use borrow.Author.Tests.{not-true, not-false}
+use Rattle.ground.proofs.Choices.{fails-left, decides}
+use Rattle.message.specs.Rules.{valueHolds}
+use borrow.Author.Needs.{needs}
+use Rattle.message.proofs.value_holds.Statement.{statement}
+use Rattle.message.proofs.value_holds.Tie as tie
+
+common-holds-requires : tie.Need-common-holds-requires
+common-holds-requires c κs = search needs
+
+returns : tie.Need-returns
+unfolding valueHolds
+returns c = sym (fails-left _ _ (sym (c .before .common-holds .ensures) ∙ not-true _ (c .if1 .taken)))
+
+own-holds-requires : tie.Need-own-holds-requires
+own-holds-requires c κs = search needs
+
+returns-2 : tie.Need-returns-2
+unfolding valueHolds
+returns-2 c = c .own-holds .ensures ∙ sym (decides _ _ (sym (c .before .before .common-holds .ensures) ∙ not-false _ (c .before .if1 .left)))
+
+pub value-holds-spec : {M : Type 1} → statement M
+value-holds-spec = tie.close (tie.spec common-holds-requires returns own-holds-requires returns-2)

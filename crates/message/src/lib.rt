@@ -1,0 +1,411 @@
+// The customer's messages ESI, SUO and VAR: their layout, their faults, and what their fields say.
+ghost use mathlib.Core.Path.{_≡_};
+ghost use mathlib.Core.List.{[], _∷_};
+ghost use Prim.Native.Nat.{_-_, _<_, _≤_};
+ghost use lib.ListN.{length, take, getD};
+ghost use Rattle.ground.specs.Choice.{pick};
+ghost use Rattle.ground.specs.Lists.{all, member, part};
+ghost use Rattle.text.specs.Characters.{digit, hexDigit};
+ghost use Rattle.text.specs.Letters.{letters};
+ghost use Rattle.message.specs.Layout.{field, fields, total, widthIn, layout, layoutLength};
+ghost use Rattle.message.specs.Rules.{hexFields, only, formatHolds, oneOf, methods, commonRules, ownRules, obeys, valueHolds, firstBroken, faultOf};
+ghost use Rattle.message.specs.Fields.{receiverOf, senderOf, stampTextOf, stampOf, dateOfStamp, versionOf, methodOf, transportGenerationOf, workingGenerationOf, onceFieldOf, digestFieldOf, checksumFieldOf, requestOf};
+
+// The messages that customers send.
+pub enum Kind {
+    Esi,
+    Suo,
+    Var,
+}
+
+// No fault, or the code and the field (ten times its number, and its part; 0 where none is named).
+pub enum Fault {
+    Sound,
+    Found { code: u32, field: u32 },
+}
+
+// The fields' numbers, in their order.
+const NUMBERS: [u32; 22] = [
+    10,
+    20,
+    30,
+    40,
+    50,
+    60,
+    70,
+    81,
+    82,
+    91,
+    92,
+    100,
+    110,
+    121,
+    122,
+    123,
+    130,
+    140,
+    150,
+    160,
+    170,
+    180,
+];
+
+// Where each field begins, and where the last ends.
+const STARTS: [usize; 23] = [
+    0,
+    5,
+    8,
+    11,
+    12,
+    16,
+    32,
+    35,
+    52,
+    60,
+    77,
+    85,
+    86,
+    87,
+    93,
+    99,
+    102,
+    103,
+    112,
+    128,
+    144,
+    160,
+    161,
+];
+
+pub fn length_of(k: Kind) -> usize
+    ensures { λ r. ⌜ r ≡ layoutLength k ⌝ }
+{
+    match k {
+        Kind::Esi => 161,
+        Kind::Suo => 128,
+        Kind::Var => 161,
+    }
+}
+
+// How many fields a message has.
+fn count_of(k: Kind) -> usize
+    ensures { λ r. ⌜ r ≡ length (layout k) ⌝ }
+{
+    match k {
+        Kind::Esi => 22,
+        Kind::Suo => 19,
+        Kind::Var => 22,
+    }
+}
+
+fn number_of(i: usize) -> u32
+    requires { ⌜ i < 22 ⌝ }
+    ensures { λ r. ⌜ r ≡ getD fields i (field 0 "" 0) .number ⌝ }
+{
+    NUMBERS[i]
+}
+
+fn start_of(i: usize) -> usize
+    requires { ⌜ i ≤ 22 ⌝ }
+    ensures { λ r. ⌜ r ≡ total (take i fields) ⌝ }
+{
+    STARTS[i]
+}
+
+// The characters of the fields from one place of the order to before another.
+fn span(from: usize, to: usize, m: &[u8]) -> &[u8]
+    requires { ⌜ (from ≤ to) × (to ≤ 22) × (length (now m) ≡ 161) ⌝ }
+    ensures { λ r. ⌜ now r ≡ part (total (take from fields)) (total (take to fields) - total (take from fields)) (now (m .entry)) ⌝ }
+{
+    let a = start_of(from);
+    let e = start_of(to);
+    &m[a..e]
+}
+
+// A test that is made only of some fields.
+fn only_if(asked: bool, holds: bool) -> bool
+    ensures { λ r. ⌜ r ≡ only asked holds ⌝ }
+{
+    if asked { holds } else { true }
+}
+
+// The fields that are digits. Neighbours stand in different arms, so that each number is a case of its own.
+fn digits_hold(n: u32, text: &[u8]) -> bool
+    ensures { λ r. ⌜ r ≡ only (member n (2 ∷ 3 ∷ 5 ∷ 10 ∷ 11 ∷ 12 ∷ [])) (all digit (now (text .entry))) ⌝ }
+{
+    match n {
+        2 | 5 | 10 | 12 => text::all_digits(text),
+        3 | 11 => text::all_digits(text),
+        _ => true,
+    }
+}
+
+// The fields that are hex digits in a message of that kind.
+fn hex_holds(k: Kind, number: u32, text: &[u8]) -> bool
+    ensures { λ r. ⌜ r ≡ only (member number (hexFields k)) (all hexDigit (now (text .entry))) ⌝ }
+{
+    match k {
+        Kind::Esi => match number {
+            170 => text::all_hex_digits(text),
+            _ => true,
+        },
+        Kind::Suo => match number {
+            150 => text::all_hex_digits(text),
+            _ => true,
+        },
+        Kind::Var => match number {
+            150 | 160 | 170 => text::all_hex_digits(text),
+            _ => true,
+        },
+    }
+}
+
+fn format_holds(k: Kind, blank_over: bool, number: u32, text: &[u8]) -> bool
+    ensures { λ r. ⌜ r ≡ formatHolds k «blank_over» number (now (text .entry)) ⌝ }
+{
+    if !only_if(number / 10 <= 16, text::all_field_characters(text)) {
+        return false;
+    }
+    if !digits_hold(number / 10, text) {
+        return false;
+    }
+    if !hex_holds(k, number, text) {
+        return false;
+    }
+    only_if(number == 20, blank_over)
+}
+
+// One of two texts.
+fn one_of(a: &[u8], b: &[u8], text: &[u8]) -> bool
+    ensures { λ r. ⌜ r ≡ oneOf (now (a .entry) ∷ now (b .entry) ∷ []) (now (text .entry)) ⌝ }
+{
+    if text::same_bytes(a, text) {
+        return true;
+    }
+    text::same_bytes(b, text)
+}
+
+fn method_holds(k: Kind, text: &[u8]) -> bool
+    ensures { λ r. ⌜ r ≡ oneOf (methods k) (now (text .entry)) ⌝ }
+{
+    match k {
+        Kind::Esi => text::same_bytes(b"SMH", text),
+        Kind::Suo => one_of(b"SKH", b"SKE", text),
+        Kind::Var => text::same_bytes(b"SMH", text),
+    }
+}
+
+fn request_holds(text: &[u8]) -> bool
+    ensures { λ r. ⌜ r ≡ oneOf (letters "0" ∷ letters "1" ∷ letters "2" ∷ []) (now (text .entry)) ⌝ }
+{
+    if text::same_bytes(b"0", text) {
+        return true;
+    }
+    one_of(b"1", b"2", text)
+}
+
+// The rules that every kind has.
+fn common_holds(k: Kind, number: u32, text: &[u8]) -> bool
+    requires { ⌜ length (now text) ≤ widthIn number fields ⌝ }
+    ensures { λ r. ⌜ r ≡ obeys (commonRules k) number (now (text .entry)) ⌝ }
+{
+    match number {
+        20 => text::number(text) == length_of(k) as u64,
+        30 => one_of(b"110", b"120", text),
+        40 | 140 => text::all_blank(text),
+        50 => text::same_bytes(b"0000", text),
+        60 => !text::all_blank(text),
+        70 => method_holds(k, text),
+        121 => {
+            let d = calendar::Date {
+                yymmdd: text::number(text) as u32,
+            };
+            d.is_real()
+        }
+        122 => calendar::is_real_time(text::number(text) as u32),
+        _ => true,
+    }
+}
+
+// The rules of each kind.
+fn own_holds(k: Kind, number: u32, text: &[u8]) -> bool
+    ensures { λ r. ⌜ r ≡ obeys (ownRules k) number (now (text .entry)) ⌝ }
+{
+    match k {
+        Kind::Esi => match number {
+            130 | 150 | 160 => text::all_blank(text),
+            180 => request_holds(text),
+            _ => true,
+        },
+        Kind::Suo => match number {
+            130 => one_of(b"S", b"A", text),
+            _ => true,
+        },
+        Kind::Var => match number {
+            130 => one_of(b"S", b"A", text),
+            180 => request_holds(text),
+            _ => true,
+        },
+    }
+}
+
+fn value_holds(k: Kind, number: u32, text: &[u8]) -> bool
+    requires { ⌜ length (now text) ≤ widthIn number fields ⌝ }
+    ensures { λ r. ⌜ r ≡ valueHolds k number (now (text .entry)) ⌝ }
+{
+    if !common_holds(k, number, text) {
+        return false;
+    }
+    own_holds(k, number, text)
+}
+
+// The test of the values or of the format.
+fn passes(values: bool, k: Kind, blank_over: bool, number: u32, text: &[u8]) -> bool
+    requires { ⌜ length (now text) ≤ widthIn number fields ⌝ }
+    ensures { λ r. ⌜ r ≡ pick values (valueHolds k) (formatHolds k «blank_over») number (now (text .entry)) ⌝ }
+{
+    if values {
+        return value_holds(k, number, text);
+    }
+    format_holds(k, blank_over, number, text)
+}
+
+// The lowest field that does not pass.
+fn first_broken(values: bool, code: u32, k: Kind, blank_over: bool, m: &[u8]) -> Fault
+    requires { ⌜ length (now m) ≡ 161 ⌝ }
+    ensures { λ r. ⌜ r ≡ firstBroken (pick values (valueHolds k) (formatHolds k «blank_over»)) code (layout k) (now (m .entry)) ⌝ }
+{
+    let count = count_of(k);
+    let mut i = 0;
+    while i < count {
+        let number = number_of(i);
+        if !passes(values, k, blank_over, number, span(i, i + 1, m)) {
+            return Fault::Found {
+                code,
+                field: number,
+            };
+        }
+        i += 1;
+    }
+    Fault::Sound
+}
+
+// The first fault: of one record alone by its number, else of the format, else of the values.
+pub fn fault_of(k: Kind, alone: u32, blank_over: bool, m: [u8; 161]) -> Fault
+    ensures { λ r. ⌜ r ≡ faultOf k alone «blank_over» m ⌝ }
+{
+    match alone {
+        1 => Fault::Found {
+            code: 1032,
+            field: 0,
+        },
+        2 => Fault::Found {
+            code: 1010,
+            field: 20,
+        },
+        3 => Fault::Found {
+            code: 1011,
+            field: 20,
+        },
+        _ => {
+            let format = first_broken(false, 1010, k, blank_over, &m);
+            match format {
+                Fault::Sound => first_broken(true, 1011, k, blank_over, &m),
+                Fault::Found { code, field } => Fault::Found { code, field },
+            }
+        }
+    }
+}
+
+// Identity and qualifier of the receiver, and of the sender.
+pub fn receiver(m: [u8; 161]) -> [u8; 25]
+    ensures { λ r. ⌜ r ≡ receiverOf m ⌝ }
+{
+    let mut out = [0u8; 25];
+    text::copy(&mut out, span(7, 9, &m));
+    out
+}
+
+pub fn sender(m: [u8; 161]) -> [u8; 25]
+    ensures { λ r. ⌜ r ≡ senderOf m ⌝ }
+{
+    let mut out = [0u8; 25];
+    text::copy(&mut out, span(9, 11, &m));
+    out
+}
+
+// The fifteen digits of the stamp as they stand, and as a number.
+pub fn stamp_text(m: [u8; 161]) -> [u8; 15]
+    ensures { λ r. ⌜ r ≡ stampTextOf m ⌝ }
+{
+    let mut out = [0u8; 15];
+    text::copy(&mut out, span(13, 16, &m));
+    out
+}
+
+pub fn stamp(m: [u8; 161]) -> u64
+    ensures { λ r. ⌜ r ≡ stampOf m ⌝ }
+{
+    text::number(span(13, 16, &m))
+}
+
+pub fn date(m: [u8; 161]) -> calendar::Date
+    ensures { λ r. ⌜ r .yymmdd ≡ dateOfStamp m ⌝ }
+{
+    calendar::Date {
+        yymmdd: text::number(span(13, 14, &m)) as u32,
+    }
+}
+
+pub fn version(m: [u8; 161]) -> u32
+    ensures { λ r. ⌜ r ≡ versionOf m ⌝ }
+{
+    text::number(span(2, 3, &m)) as u32
+}
+
+pub fn method(m: [u8; 161]) -> digest::Method
+    ensures { λ r. ⌜ r ≡ methodOf m ⌝ }
+{
+    if text::same_bytes(span(6, 7, &m), b"SKE") {
+        return digest::Method::Ske;
+    }
+    digest::Method::Skh
+}
+
+pub fn transport_generation(m: [u8; 161]) -> u32
+    ensures { λ r. ⌜ r ≡ transportGenerationOf m ⌝ }
+{
+    text::number(span(11, 12, &m)) as u32
+}
+
+pub fn working_generation(m: [u8; 161]) -> u32
+    ensures { λ r. ⌜ r ≡ workingGenerationOf m ⌝ }
+{
+    text::number(span(12, 13, &m)) as u32
+}
+
+// The one-time key as it came, enciphered.
+pub fn once_field(m: [u8; 161]) -> u64
+    ensures { λ r. ⌜ r ≡ onceFieldOf m ⌝ }
+{
+    text::hex_number(span(18, 19, &m))
+}
+
+pub fn digest_field(m: [u8; 161]) -> u64
+    ensures { λ r. ⌜ r ≡ digestFieldOf m ⌝ }
+{
+    text::hex_number(span(19, 20, &m))
+}
+
+pub fn checksum_field(m: [u8; 161]) -> u64
+    ensures { λ r. ⌜ r ≡ checksumFieldOf m ⌝ }
+{
+    text::hex_number(span(20, 21, &m))
+}
+
+// The request for keys.
+pub fn request(m: [u8; 161]) -> u32
+    ensures { λ r. ⌜ r ≡ requestOf m ⌝ }
+{
+    text::number(span(21, 22, &m)) as u32
+}

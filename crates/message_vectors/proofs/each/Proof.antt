@@ -1,0 +1,64 @@
+-- A text begins no later than it ends, within the texts.
+use Prim.Native.Nat.{_≤_, _-_}
+use native.Mathlib.Omega.{arith}
+use mathlib.Core.Logic.{⊎-elim}
+use lib.ListN.{length}
+use Rattle.message_vectors.proofs.each.Statement.{statement}
+use Rattle.message_vectors.proofs.each.Tie as tie
+
+abbrev Inv-loop : tie.InvT-loop
+Inv-loop k number texts start₀ i₀ start i = (start ≤ i) × (i ≤ length texts)
+
+abbrev μ-loop : tie.MeasureT-loop
+μ-loop k number texts start₀ i₀ start i = length texts - i
+
+loop-holds : tie.Need-loop-holds Inv-loop μ-loop
+loop-holds c = omega arith
+
+shared-slice-read-if1 : tie.Need-shared-slice-read-if1 Inv-loop μ-loop
+shared-slice-read-if1 c = omega arith
+
+sub-one : tie.Need-sub-one Inv-loop μ-loop
+sub-one c = omega arith
+
+part-one-start : tie.Need-part-one-start Inv-loop μ-loop
+part-one-start c = omega arith
+
+part-one-end : tie.Need-part-one-end Inv-loop μ-loop
+part-one-end c = omega arith
+
+one-requires : tie.Need-one-requires Inv-loop μ-loop
+one-requires c κs = tt
+
+add-start : tie.Need-add-start Inv-loop μ-loop
+add-start c = omega arith
+
+add-i : tie.Need-add-i Inv-loop μ-loop
+add-i c = omega arith
+
+loop-less : tie.Need-loop-less Inv-loop μ-loop
+loop-less c = omega arith
+
+loop-again : tie.Need-loop-again Inv-loop μ-loop
+loop-again c = ⊎-elim (λ w. omega arith) (λ w. omega arith) (c .if1 .came)
+
+returns : tie.Need-returns Inv-loop μ-loop
+returns c = tt
+
+pub each-spec : {M : Type 1} → statement M
+each-spec =
+    tie.close
+    (tie.spec
+    Inv-loop
+    μ-loop
+    loop-holds
+    shared-slice-read-if1
+    sub-one
+    part-one-start
+    part-one-end
+    one-requires
+    add-start
+    add-i
+    loop-less
+    loop-again
+    returns)

@@ -1,0 +1,41 @@
+-- Where there is no room nothing changes, else the bytes are written there.
+use mathlib.Core.Path.{_≡_, sym, _∙_}
+use native.Mathlib.Omega.{arith}
+use borrow.Author.Tests.{not-true, not-false}
+use lib.ListN.{length}
+use Rattle.splices.proofs.Splice.{put-past, put-fits}
+use Rattle.record.specs.Layout.{customerBytes}
+use Rattle.record.proofs.Widths.{customer-width}
+use borrow.Author.Needs.{needs}
+use Rattle.record.proofs.store_at.Statement.{statement}
+use Rattle.record.proofs.store_at.Tie as tie
+
+fits-requires : tie.Need-fits-requires
+fits-requires c κs = search needs
+
+returns : tie.Need-returns
+returns c =
+    let a = c .before .before .before .args in
+    let n₁ : length (a .c .who) ≡ 25 = search needs in
+    let n₂ : length (a .c .stamps) ≡ 64 = search needs in
+    let n₃ : length (a .c .once) ≡ 64 = search needs in
+    sym (put-past (a .at) (customerBytes (a .c)) (a .t .now) (omega (arith, customer-width (a .c) n₁ n₂ n₃, c .before .fits2 .ensures .1 (not-true _ (c .if1 .taken)))))
+
+store-customer-requires : tie.Need-store-customer-requires
+store-customer-requires c κs = c .before .before .fits2 .ensures .0 (not-false _ (c .before .if1 .left))
+
+same-length : tie.Need-same-length
+same-length c = search needs
+
+returns-2 : tie.Need-returns-2
+returns-2 c =
+    let a = c .before .before .before .before .before .before .before .args in
+    let n₁ : length (a .c .who) ≡ 25 = search needs in
+    let n₂ : length (a .c .stamps) ≡ 64 = search needs in
+    let n₃ : length (a .c .once) ≡ 64 = search needs in
+    c .before .before .store-customer .ensures
+    ∙ sym (put-fits (a .at) (customerBytes (a .c)) (a .t .now) (omega (arith, customer-width (a .c) n₁ n₂ n₃, c .before .before .before .before .before .fits2 .ensures .0 (not-false _ (c .before .before .before .before .if1 .left)))))
+
+pub store-at-spec : {M : Type 1} → statement M
+store-at-spec =
+    tie.close (tie.spec fits-requires returns store-customer-requires same-length returns-2)

@@ -1,0 +1,39 @@
+-- Where there is no room nothing changes, else the bytes are written there.
+use mathlib.Core.Path.{_≡_, sym, _∙_}
+use native.Mathlib.Omega.{arith}
+use borrow.Author.Tests.{not-true, not-false}
+use lib.ListN.{length}
+use Rattle.splices.proofs.Splice.{put-past, put-fits}
+use Rattle.record.specs.Layout.{settingsBytes}
+use Rattle.record.proofs.Widths.{settings-width}
+use borrow.Author.Needs.{needs}
+use Rattle.record.proofs.store_settings.Statement.{statement}
+use Rattle.record.proofs.store_settings.Tie as tie
+
+fits-requires : tie.Need-fits-requires
+fits-requires c κs = search needs
+
+returns : tie.Need-returns
+returns c =
+    let a = c .before .before .before .args in
+    let n₁ : length (a .s .bank) ≡ 25 = search needs in
+    let n₂ : length (a .s .software) ≡ 16 = search needs in
+    sym (put-past (a .at) (settingsBytes (a .s)) (a .t .now) (omega (arith, settings-width (a .s) n₁ n₂, c .before .fits2 .ensures .1 (not-true _ (c .if1 .taken)))))
+
+store-bank-requires : tie.Need-store-bank-requires
+store-bank-requires c κs = c .before .before .fits2 .ensures .0 (not-false _ (c .before .if1 .left))
+
+same-length : tie.Need-same-length
+same-length c = search needs
+
+returns-2 : tie.Need-returns-2
+returns-2 c =
+    let a = c .before .before .before .before .before .before .before .args in
+    let n₁ : length (a .s .bank) ≡ 25 = search needs in
+    let n₂ : length (a .s .software) ≡ 16 = search needs in
+    c .before .before .store-bank .ensures
+    ∙ sym (put-fits (a .at) (settingsBytes (a .s)) (a .t .now) (omega (arith, settings-width (a .s) n₁ n₂, c .before .before .before .before .before .fits2 .ensures .0 (not-false _ (c .before .before .before .before .if1 .left)))))
+
+pub store-settings-spec : {M : Type 1} → statement M
+store-settings-spec =
+    tie.close (tie.spec fits-requires returns store-bank-requires same-length returns-2)

@@ -1,0 +1,161 @@
+-- A record that fits and is sound is read back as it was written: each of its numbers is below what its bytes hold.
+-- Assumes nothing.
+use mathlib.Core.Path.{_≡_, refl, sym, ap, _∙_}
+use mathlib.Core.List.{List, [], _∷_}
+use mathlib.Core.Bool.{Bool, true, false}
+use mathlib.Core.Logic.{_⊎_, ⊎-elim}
+use Prim.Native.Nat.{ℕ, zero, suc, _+_, _^_, _≤_, _<_}
+use native.Mathlib.Omega.{arith}
+use borrow.Author.Tests.{eqb-true, leb-true, ltb-true}
+use lib.Dec.{eqb, ltb, leb}
+use lib.ListN.{length, getD}
+use Rattle.ground.specs.Choice.{both, either, between}
+use Rattle.ground.specs.Lists.{all, member}
+use Rattle.ground.proofs.Choices.{left, right, either-cases, between-true}
+use Rattle.text.specs.Characters.{fieldCharacter, marks}
+use Rattle.calendar.specs.Dates.{realDate}
+use Rattle.customer.specs.Customer.{soundPrevious, soundKeys, realStamp, soundOnce, soundStamps, soundCustomer}
+use Rattle.customer.specs.Settings.{soundName, soundWho, soundSettings}
+use Rattle.customer.specs.declared.Changeover.{Changeover}
+use Rattle.customer.specs.declared.Previous.{Previous}
+use Rattle.customer.specs.declared.Previous.the-variants.{Nothing, Held}
+use Rattle.customer.specs.declared.KeyPair.{KeyPair}
+use Rattle.customer.specs.declared.Customer.{Customer}
+use Rattle.customer.specs.declared.Settings.{Settings}
+use Rattle.record.specs.Layout.{ShapedChangeover, ShapedPrevious, ShapedPair, Shaped, ShapedSettings}
+use Rattle.table.specs.Table.{word, previousFits, pairFits, customerFits, settingsFit}
+
+-- what holds of each element, and of 0, holds at every place
+each-below : (f : ℕ → Bool) (n : ℕ) → ((x : ℕ) → f x ≡ true → x < n) → 0 < n → (l : List ℕ) → all f l ≡ true → (k : ℕ) → getD l k 0 < n
+unfolding all
+each-below f n h z [] e k = z
+each-below f n h z (x ∷ l) e zero = h x (left _ _ e)
+each-below f n h z (x ∷ l) e (suc k) = each-below f n h z l (right _ _ e) k
+
+-- every mark is a byte
+marks-below : (x : ℕ) (l : List ℕ) → all (λ y. ltb y 256) l ≡ true → member x l ≡ true → x < 256
+unfolding all member
+marks-below x [] a e = let z : _≡_ {A = Bool} false true = e in absurd (let y : _≡_ {A = ℕ} 0 1 = cc in omega arith)
+marks-below x (y ∷ l) a e =
+    ⊎-elim
+    (λ (p : eqb y x ≡ true). let q = eqb-true y x p in let r = ltb-true y 256 (left _ _ a) in omega arith)
+    (λ (p : member x l ≡ true). marks-below x l (right _ _ a) p)
+    (either-cases (eqb y x) (member x l) e)
+
+marks-small : all (λ y. ltb y 256) marks ≡ true
+unfolding all both
+marks-small = refl
+
+field-lt : (x : ℕ) → fieldCharacter x ≡ true → x < 256
+unfolding fieldCharacter
+field-lt x e =
+    ⊎-elim
+    (λ (p : between 0x41 0x5A x ≡ true). let q = between-true 0x41 0x5A x p in omega arith)
+    (λ (p : either (between 0x30 0x39 x) _ ≡ true).
+    ⊎-elim
+    (λ (q : between 0x30 0x39 x ≡ true). let r = between-true 0x30 0x39 x q in omega arith)
+    (λ (q : either (eqb x 0x20) _ ≡ true).
+    ⊎-elim
+    (λ (r : eqb x 0x20 ≡ true). let s = eqb-true x 0x20 r in omega arith)
+    (λ r. marks-below x _ marks-small r)
+    (either-cases _ _ q))
+    (either-cases _ _ p))
+    (either-cases _ _ e)
+
+who-bytes : (l : List ℕ) → soundWho l ≡ true → (k : ℕ) → getD l k 0 < 256
+unfolding soundWho
+who-bytes l e = each-below fieldCharacter 256 field-lt (omega arith) l (left _ _ e)
+
+-- ---- keys
+
+real-lt : (d : ℕ) → realDate d ≡ true → d < 2 ^ 32
+unfolding realDate
+real-lt d e = let h = ltb-true d 1000000 (left _ _ e) in omega arith
+
+word-lt : (x : ℕ) → word x ≡ true → x < 2 ^ 64
+word-lt x e = ltb-true x (2 ^ 64) e
+
+previous-shaped : (current : ℕ) (p : Previous) → previousFits p ≡ true → soundPrevious current p ≡ true → ShapedPrevious p
+unfolding previousFits soundPrevious
+previous-shaped current Nothing f e = tt
+previous-shaped current (Held p) f e =
+    let e₁ = right _ _ e in
+    let e₂ = right _ _ e₁ in
+    let e₃ = right _ _ e₂ in
+    let e₄ = right _ _ e₃ in
+    record {
+      generation = let h = leb-true (p .generation) 9 (left _ _ e) in omega arith;
+      key = word-lt (p .key) f;
+      first = real-lt (p .first .yymmdd) (left _ _ e₃);
+      last = real-lt (p .last .yymmdd) (left _ _ e₄)
+    }
+
+pair-shaped : (k : KeyPair) → pairFits k ≡ true → soundKeys k ≡ true → ShapedPair k
+unfolding soundKeys
+pair-shaped k f e =
+    record {
+      generation = let h = leb-true (k .generation) 9 (left _ _ e) in omega arith;
+      key = word-lt (k .key) (left _ _ f);
+      previous = previous-shaped (k .generation) (k .previous) (right _ _ f) (right _ _ (right _ _ e))
+    }
+
+-- ---- stamps
+
+stamp-lt : (s : ℕ) → realStamp s ≡ true → s < 2 ^ 64
+unfolding realStamp
+stamp-lt s e = let h = ltb-true s 1000000000000000 (left _ _ e) in omega arith
+
+stamps-lt : (n : ℕ) (ss ks : List ℕ) → soundStamps n ss ks ≡ true → length ss ≡ length ks → (k : ℕ) → getD ss k 0 < 2 ^ 64
+unfolding soundStamps
+stamps-lt n [] ks e l k = omega arith
+stamps-lt n (s ∷ ss) [] e l k = absurd (omega arith)
+stamps-lt zero (s ∷ ss) (q ∷ ks) e l zero = let h = eqb-true s 0 (left _ _ (left _ _ e)) in omega arith
+stamps-lt zero (s ∷ ss) (q ∷ ks) e l (suc k) = stamps-lt zero ss ks (right _ _ e) (omega arith) k
+stamps-lt (suc n) (s ∷ ss) (q ∷ ks) e l zero = stamp-lt s (left _ _ (left _ _ e))
+stamps-lt (suc n) (s ∷ ss) (q ∷ ks) e l (suc k) = stamps-lt n ss ks (right _ _ e) (omega arith) k
+
+-- ---- a customer, and the settings
+
+pub customer-shaped : (c : Customer) → customerFits c ≡ true → soundCustomer c ≡ true → Shaped c
+unfolding customerFits soundCustomer
+customer-shaped c f e =
+    let f₁ = right _ _ f in
+    let f₂ = right _ _ f₁ in
+    let f₃ = right _ _ f₂ in
+    let f₄ = right _ _ f₃ in
+    let e₁ = right _ _ e in
+    let e₂ = right _ _ e₁ in
+    let e₃ = right _ _ e₂ in
+    let e₄ = right _ _ e₃ in
+    let e₅ = right _ _ e₄ in
+    let ss : length (c .stamps) ≡ 64 = eqb-true _ _ (left _ _ f₁) in
+    let ks : length (c .once) ≡ 64 = eqb-true _ _ (left _ _ f₂) in
+    record {
+      who = eqb-true _ _ (left _ _ f);
+      who-bytes = who-bytes (c .who) (left _ _ e);
+      types = ltb-true (c .types) (2 ^ 16) (left _ _ e₁);
+      days = let h = between-true 1 60 (c .length) (left _ _ e₂) in omega arith;
+      transport = pair-shaped (c .transport) (left _ _ f₄) (left _ _ e₃);
+      working = pair-shaped (c .working) (right _ _ f₄) (left _ _ e₄);
+      count = let h = leb-true (c .count) 64 (left _ _ e₅) in omega arith;
+      stamps = ss;
+      stamps-fit = stamps-lt (c .count) (c .stamps) (c .once) (right _ _ e₅) (ss ∙ sym ks);
+      once = ks;
+      once-fit = each-below word (2 ^ 64) word-lt (omega arith) (c .once) (left _ _ f₃)
+    }
+
+pub settings-shaped : (s : Settings) → settingsFit s ≡ true → soundSettings s ≡ true → ShapedSettings s
+unfolding settingsFit soundSettings soundName
+settings-shaped s f e =
+    let f₁ = right _ _ f in
+    let f₂ = right _ _ f₁ in
+    let e₁ = right _ _ e in
+    record {
+      bank = eqb-true _ _ (left _ _ f);
+      bank-bytes = who-bytes (s .bank) (left _ _ e);
+      software = eqb-true _ _ (left _ _ f₁);
+      software-bytes = each-below fieldCharacter 256 field-lt (omega arith) (s .software) (left _ _ (left _ _ e₁));
+      floor = ⊎-elim (λ (p : eqb (s .floor) 110 ≡ true). let q = eqb-true (s .floor) 110 p in omega arith) (λ (p : eqb (s .floor) 120 ≡ true). let q = eqb-true (s .floor) 120 p in omega arith) (either-cases _ _ (right _ _ e₁));
+      key = word-lt (s .maker .key) (left _ _ f₂);
+      seed = word-lt (s .maker .seed) (right _ _ f₂)
+    }

@@ -1,0 +1,25 @@
+-- The seed is written where it stands, if the length is right.
+use mathlib.Core.Path.{_≡_, sym, ap, _∙_}
+use borrow.Author.Tests.{ne-eqb, eq-eqb}
+use Rattle.ground.proofs.Choices.{picks, skips}
+use Rattle.table.specs.Stored.{seedStored}
+use borrow.Author.Needs.{needs}
+use Rattle.table.proofs.store_seed.Statement.{statement}
+use Rattle.table.proofs.store_seed.Tie as tie
+
+returns : tie.Need-returns
+unfolding seedStored
+returns c = sym (skips _ _ _ (ne-eqb _ _ (c .if1 .taken)))
+
+write8-requires : tie.Need-write8-requires
+write8-requires c κs = search needs
+
+same-length : tie.Need-same-length
+same-length c = search needs
+
+returns-2 : tie.Need-returns-2
+unfolding seedStored
+returns-2 c = c .before .before .write8 .ensures ∙ sym (picks _ _ _ (eq-eqb _ _ (c .before .before .before .before .if1 .left)))
+
+pub store-seed-spec : {M : Type 1} → statement M
+store-seed-spec = tie.close (tie.spec returns write8-requires same-length returns-2)

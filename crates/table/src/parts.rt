@@ -1,0 +1,98 @@
+// The parts of a table by their places: counts, dates and customers.
+use crate::Found;
+ghost use mathlib.Core.Path.{_≡_};
+ghost use Prim.Native.Nat.{_+_, _*_, _≤_};
+ghost use lib.ListN.{length};
+ghost use Rattle.ground.specs.Lists.{part, same};
+ghost use Rattle.splices.specs.Bytes.{bytesOfAll, put};
+ghost use Rattle.table.specs.Table.{placeFrom, isUnknown};
+ghost use Rattle.table.specs.Written.{customersStart};
+ghost use Rattle.table.specs.Decode.{holidayCount};
+ghost use Rattle.table.specs.Tests.{countAt, datesAt, customersAt, filled};
+
+pub(crate) const SIZE: usize = 49152;
+
+// A count of the header, no more than there is room for.
+pub(crate) fn count_at(t: &[u8], at: usize, most: u32) -> usize
+    ensures { λ r. ⌜ (r ≡ countAt most at (now (t .entry))) × (r ≤ most) ⌝ }
+{
+    let n = splices::read4(t, at);
+    if most < n {
+        return most as usize;
+    }
+    n as usize
+}
+
+// Where the customers stand.
+pub(crate) fn customers_start(t: &[u8]) -> usize
+    ensures { λ r. ⌜ (r ≡ customersStart (holidayCount (now (t .entry)))) × (r ≤ 882) ⌝ }
+{
+    82 + 4 * count_at(t, 8, 200)
+}
+
+// The n dates that stand from `at` on, in an array of 200.
+pub(crate) fn dates_at(t: &[u8], at: usize, n: usize) -> [u32; 200]
+    requires { ⌜ (n ≤ 200) × (at + 4 * n ≤ length (now t)) ⌝ }
+    ensures { λ r. ⌜ r ≡ filled (datesAt at n (now (t .entry))) ⌝ }
+{
+    let mut out = [0u32; 200];
+    let mut i = 0;
+    while i < n {
+        out[i] = splices::read4(t, at + 4 * i);
+        i += 1;
+    }
+    out
+}
+
+// The dates are written from `at` on.
+pub(crate) fn store_dates(t: &mut [u8], at: usize, dates: &[u32])
+    requires { ⌜ at + 4 * length (now dates) ≤ length (now t) ⌝ }
+    ensures { λ _. ⌜ now (t .exit) ≡ put at (bytesOfAll 4 (now (dates .entry))) (now (t .entry)) ⌝ }
+{
+    let mut i = 0;
+    while i < dates.len() {
+        splices::write4(t, at + 4 * i, dates[i]);
+        i += 1;
+    }
+}
+
+// Whether the 25 bytes at `at` are that identity and qualifier.
+pub(crate) fn same_at(t: &[u8], at: usize, who: [u8; 25]) -> bool
+    requires { ⌜ at + 25 ≤ length (now t) ⌝ }
+    ensures { λ r. ⌜ r ≡ same (part at 25 (now (t .entry))) who ⌝ }
+{
+    let mut i = 0;
+    while i < 25 {
+        if t[at + i] != who[i] {
+            return false;
+        }
+        i += 1;
+    }
+    true
+}
+
+// The place of that identity and qualifier among the n customers who stand from `at` on.
+pub(crate) fn find_from(t: &[u8], at: usize, n: usize, who: [u8; 25]) -> Found
+    requires { ⌜ at + 1109 * n ≤ length (now t) ⌝ }
+    ensures { λ r. ⌜ r ≡ placeFrom 0 who (customersAt at n (now (t .entry))) ⌝ }
+{
+    let mut p = at;
+    let mut i = 0;
+    while i < n {
+        if same_at(t, p, who) {
+            return Found::At(i);
+        }
+        p += 1109;
+        i += 1;
+    }
+    Found::Unknown
+}
+
+pub(crate) fn is_unknown(f: Found) -> bool
+    ensures { λ r. ⌜ r ≡ isUnknown f ⌝ }
+{
+    match f {
+        Found::At(_) => false,
+        Found::Unknown => true,
+    }
+}

@@ -1,0 +1,2 @@
+-- What the contracts of `table_bench` cite.
+pub mod Counted
