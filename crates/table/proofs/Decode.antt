@@ -1,27 +1,24 @@
 -- A table that is written is read back as itself, and bytes that are a table are written as the one that they say.
 -- Assumes nothing.
 use mathlib.Core.Path.{_≡_, refl, sym, ap, ap₂, _∙_}
-use mathlib.Core.List.{List, [], _∷_, _++_, map, append-assoc, append-nil}
-use mathlib.Core.Bool.{Bool, true}
-use Prim.Native.Nat.{ℕ, zero, suc, _+_, _*_, _^_, _≤_, _<_, min}
-use native.Mathlib.Nat.{add-zero}
+use mathlib.Core.List.{List, [], _∷_, _++_, map, append-assoc}
+use mathlib.Core.Bool.{true}
+use Prim.Native.Nat.{ℕ, _*_, _^_, _<_}
 use native.Mathlib.Omega.{arith}
 use borrow.Author.Tests.{eqb-true, eq-eqb, ne-eqb, ltb-true}
-use lib.Dec.{eqb}
 use lib.ListN.{length, take, drop, getD, length-append, take-append-drop}
 use lib.Seq.{drop-at, take-at}
-use Rattle.ground.specs.Choice.{both, pick}
 use Rattle.ground.specs.Lists.{all, part, same}
-use Rattle.ground.proofs.Choices.{left, right, join, picks, skips, same-eq, eq-same, all-cons}
+use Rattle.ground.proofs.Choices.{left, right, join, picks, skips, same-eq, eq-same}
 use Rattle.calendar.specs.Dates.{realDate}
-use Rattle.splices.specs.Bytes.{num, numAt, bytesOf, bytesOfAll, flat, chunks, nums}
+use Rattle.splices.specs.Bytes.{numAt, bytesOfAll, flat, chunks, nums}
 use Rattle.splices.proofs.Splice
 use Rattle.splices.proofs.Chunks
 use Rattle.splices.proofs.Chunks.{Each}
 use Rattle.record.proofs.Back.{customer-back, settings-back}
-use Rattle.record.specs.Layout.{recordWidth, settingsWidth, customerBytes, settingsBytes, customerOf, settingsOf, rawAt, settingsAt}
+use Rattle.record.specs.Layout.{recordWidth, settingsWidth, customerBytes, settingsBytes, customerOf, settingsOf, settingsAt}
 use Rattle.customer.specs.declared.Customer.{Customer}
-use Rattle.table.specs.Table.{Table, customerFits, eachSound, soundTable}
+use Rattle.table.specs.Table.{Table, eachSound, soundTable}
 use Rattle.table.specs.Written.{tableSize, settingsStart, holidaysStart, customersStart, totalLength, header, encode, written, WrittenAs}
 use Rattle.table.specs.Decode.{holidayCount, customerCount, tableOf, isTable}
 use Rattle.table.specs.Tests.{datesAt, customersAt}
@@ -39,7 +36,7 @@ tableAt h n b =
       day = numAt 4 4 b;
       settings = settingsAt settingsStart b;
       holidays = datesAt holidaysStart h b;
-      customers = customersAt (customersStart h) n b
+      customers = customersAt (customersStart h) n b;
     }
 
 pub table-sized : (b : List ℕ) → length b ≡ tableSize → tableOf b ≡ tableAt (holidayCount b) (customerCount b) b
@@ -90,10 +87,13 @@ module _ (t : Table) (e : soundTable t ≡ true) (r b : List ℕ) (is : b ≡ en
   heads =
       let s = Sound.parts t e in
       ap (nums 4 6) as-header
-      ∙ Chunks.nums-more 4 (header t) _ 6 refl
-      (omega (arith, s .holidays, s .customers),
-       (real-lt (t .day) (s .day),
-        (omega (arith, s .holidays), (omega arith, (omega (arith, s .customers), (omega (arith, s .holidays), tt))))))
+      ∙ Chunks.nums-more 4 (header t) _ 6 refl (
+        omega (arith, s .holidays, s .customers),
+        (
+          real-lt (t .day) (s .day),
+          (omega (arith, s .holidays), (omega arith, (omega (arith, s .customers), (omega (arith, s .holidays), tt)))),
+        ),
+      )
 
   head-at : (k : ℕ) → k < 6 → numAt 4 (4 * k) b ≡ getD (header t) k 0
   head-at k h =
@@ -193,7 +193,7 @@ is-written b e =
       sound = left _ _ (right _ _ e);
       rest = drop (length (encode t)) b;
       bytes = sym (ap (λ (x : List ℕ). x ++ drop (length (encode t)) b) p ∙ take-append-drop (length (encode t)) b);
-      size = eqb-true _ _ (left _ _ e)
+      size = eqb-true _ _ (left _ _ e);
     }
 
 -- ---- a table written over another

@@ -1,28 +1,25 @@
 -- The bytes of a table by their places: its parts stand one after the other, each of the width that its count gives.
 -- Assumes nothing.
 use mathlib.Core.Path.{_≡_, refl, sym, ap, ap₂, _∙_}
-use mathlib.Core.List.{List, [], _∷_, _++_, append-assoc, append-nil}
-use mathlib.Core.Bool.{Bool, true}
+use mathlib.Core.List.{List, [], _∷_, _++_, append-assoc}
+use mathlib.Core.Bool.{true}
 use Prim.Native.Nat.{ℕ, zero, suc, _+_, _*_, _≤_, _<_}
 use native.Mathlib.Nat.{not-suc-le-zero, le-of-suc-le-suc}
 use native.Mathlib.Omega.{arith}
 use borrow.Author.Tests.{eqb-true}
-use lib.ListN.{length, take, drop, getD, set, length-append, length-drop, length-take, take-append-drop}
+use lib.ListN.{length, take, drop, getD, length-append, length-drop}
 use lib.Seq.{drop-at, length-take-le}
-use Rattle.ground.specs.Choice.{both}
 use Rattle.ground.proofs.Choices.{left, right}
-use Rattle.splices.specs.Bytes.{bytesOf, bytesOfAll, flat, splice, put}
+use Rattle.splices.specs.Bytes.{bytesOfAll, flat, put}
 use Rattle.splices.proofs.Splice
 use Rattle.splices.proofs.Chunks
 use Rattle.splices.proofs.Chunks.{Each}
 use Rattle.record.proofs.Widths.{customer-width, settings-width}
 use Rattle.record.specs.Layout.{recordWidth, settingsWidth, customerBytes, settingsBytes}
-use Rattle.customer.specs.Customer.{soundCustomer}
 use Rattle.customer.specs.declared.Customer.{Customer}
 use Rattle.customer.specs.declared.Settings.{Settings}
 use Rattle.table.specs.Table.{Table, customerFits, settingsFit, eachSound, soundTable}
-use Rattle.table.specs.Written.{tableSize, settingsStart, holidaysStart, customersStart, totalLength, header, encode, written, WrittenAs}
-use Rattle.table.specs.Decode.{tableOf, isTable}
+use Rattle.table.specs.Written.{tableSize, settingsStart, customersStart, totalLength, header, encode, written, WrittenAs}
 use Rattle.table.proofs.Sound
 
 -- ---- widths
@@ -120,7 +117,7 @@ written-sized b u n e =
       sound = e;
       rest = drop (length (encode u)) b;
       bytes = refl;
-      size = simp (length-append, length-drop) (omega (arith, fits u e))
+      size = simp (length-append, length-drop) (omega (arith, fits u e));
     }
 
 -- ---- a part of a list is written over by another of its length

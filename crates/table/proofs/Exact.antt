@@ -1,30 +1,28 @@
 -- Bytes are a table just when the tests that `is_table` makes hold: the header says what the counts give, and every record is exact.
 -- Assumes nothing.
 use mathlib.Core.Path.{_≡_, refl, sym, ap, ap₂, _∙_}
-use mathlib.Core.List.{List, [], _∷_, _++_, map, append-assoc}
+use mathlib.Core.List.{List, [], _∷_, _++_, append-assoc}
 use mathlib.Core.Bool.{Bool, true, false}
-use Prim.Native.Nat.{ℕ, zero, suc, _+_, _*_, _≤_, _<_, min}
-use native.Mathlib.Nat.{mul-zero, mul-suc, add-comm}
+use Prim.Native.Nat.{ℕ, zero, suc, _+_, _*_, _≤_}
+use native.Mathlib.Nat.{mul-suc, add-comm}
 use native.Mathlib.Omega.{arith}
 use borrow.Author.Tests.{eqb-true, eq-eqb, leb-true, le-leb}
-use lib.Dec.{eqb, leb}
-use lib.ListN.{length, take, drop, length-append, length-drop, take-append-drop}
+use lib.ListN.{length, take, drop, length-drop}
 use lib.Seq.{drop-at, take-at, take-add, drop-drop, length-take-le}
 use Rattle.ground.specs.Choice.{both}
 use Rattle.ground.specs.Lists.{all, part, same}
-use Rattle.ground.proofs.Choices.{left, right, join, same-eq, eq-same}
+use Rattle.ground.proofs.Choices.{left, right, join, eq-same}
 use Rattle.text.proofs.Lists.{refuted}
 use Rattle.calendar.specs.Dates.{realDate}
-use Rattle.splices.specs.Bytes.{num, numAt, bytesOf, bytesOfAll, flat, chunks, nums}
+use Rattle.splices.specs.Bytes.{num, numAt, bytesOf, bytesOfAll, flat, nums}
 use Rattle.splices.proofs.Splice
 use Rattle.splices.proofs.Splice.{AllBytes}
 use Rattle.splices.proofs.Chunks
 use Rattle.record.proofs.Exact.{exact-back, settings-exact}
-use Rattle.record.specs.Layout.{recordWidth, settingsWidth, customerBytes, settingsBytes, customerOf, settingsOf, rawAt, customerAt, settingsAt, exactAt}
-use Rattle.customer.specs.Customer.{soundCustomer}
+use Rattle.record.specs.Layout.{recordWidth, settingsWidth, customerBytes, settingsBytes, customerOf, settingsOf, customerAt, settingsAt, exactAt}
 use Rattle.customer.specs.Settings.{soundSettings}
 use Rattle.customer.specs.declared.Customer.{Customer}
-use Rattle.table.specs.Table.{Table, customerFits, settingsFit, placeFrom, isUnknown, distinct, eachSound, soundTable, rising}
+use Rattle.table.specs.Table.{Table, customerFits, settingsFit, distinct, eachSound, soundTable, rising}
 use Rattle.table.specs.Written.{tableSize, settingsStart, holidaysStart, customersStart, totalLength, header, encode}
 use Rattle.table.specs.Decode.{holidayCount, customerCount, tableOf, isTable}
 use Rattle.table.specs.Tests.{datesAt, customersAt, okHeader, okDates, okRecords}
@@ -55,7 +53,7 @@ head b e =
       customers = leb-true _ _ (left _ _ e₁);
       start = eqb-true _ _ (left _ _ e₂);
       offset = eqb-true _ _ (left _ _ e₃);
-      total = eqb-true _ _ (right _ _ e₃)
+      total = eqb-true _ _ (right _ _ e₃);
     }
 
 head-ok : (b : List ℕ) → Header b → okHeader b ≡ true
@@ -124,7 +122,7 @@ ok-records (suc n) p b bs h o =
     record {
       each = ap eachSound s ∙ join _ _ (join _ _ f (left _ _ o₂)) (r .each);
       distinct = ap distinct s ∙ join _ _ (left _ _ o₃) (r .distinct);
-      exact = ap (flat customerBytes) s ∙ ap₂ _++_ first (r .exact) ∙ sym (two-parts n p b)
+      exact = ap (flat customerBytes) s ∙ ap₂ _++_ first (r .exact) ∙ sym (two-parts n p b);
     }
 
 -- ---- the tests that are made
@@ -172,8 +170,8 @@ facts b e =
                 ap (flat customerBytes) (sym cs)
                 ∙ sym (ap (take (recordWidth * customerCount b)) front
                 ∙ take-at (flat customerBytes (t .customers)) (w .rest) (recordWidth * customerCount b)
-                (Encode.flat-wide (t .customers) (f .records) ∙ ap (λ (k : ℕ). recordWidth * k) (sym m)))
-          })
+                (Encode.flat-wide (t .customers) (f .records) ∙ ap (λ (k : ℕ). recordWidth * k) (sym m)));
+          });
     }
 
 -- ---- and back: what is read is written so
@@ -241,7 +239,7 @@ module _ (b : List ℕ) (bs : AllBytes b) (f : Facts b) where
         rises = right _ _ (f .dates);
         customers = omega (arith, Turns.customers-length (customersStart (holidayCount b)) (customerCount b) b);
         each = records .each;
-        distinct = records .distinct
+        distinct = records .distinct;
       })
 
   pub table-from : isTable b ≡ true

@@ -1,21 +1,19 @@
 -- Dates in an array of 200, and numbers that are written one after the other: one more at each turn.
 -- Assumes nothing.
 use mathlib.Core.Path.{_≡_, refl, sym, ap, _∙_}
-use mathlib.Core.List.{List, [], _∷_, _++_, append-assoc, append-nil}
-use mathlib.Core.Logic.{_⊎_, inl, inr, ⊎-elim}
-use Prim.Native.Nat.{ℕ, zero, suc, _+_, _-_, _*_, _≤_, _<_}
+use mathlib.Core.List.{List, [], _∷_, _++_, append-nil}
+use mathlib.Core.Logic.{⊎-elim}
+use Prim.Native.Nat.{ℕ, _+_, _-_, _*_, _≤_, _<_}
 use native.Mathlib.Nat.{add-zero}
 use native.Mathlib.Omega.{arith}
-use lib.ListN.{length, take, drop, getD, set, replicate, length-append, length-take, length-set, length-replicate, getD-replicate, List·getD-append}
+use lib.ListN.{length, take, getD, set, replicate, length-append, length-take, length-set, length-replicate, getD-replicate, List·getD-append}
 use native.Mathlib.Numerals.{add-one}
 use lib.Seq.{ext-getD, getD-take, getD-append-add, getD-set-other, take-suc, length-take-le}
-use Rattle.ground.specs.Lists.{part}
 use Rattle.calendar.proofs.Walk.{below}
-use Rattle.splices.specs.Bytes.{num, numAt, bytesOf, bytesOfAll, flat, nums, splice, put}
+use Rattle.splices.specs.Bytes.{numAt, bytesOf, bytesOfAll, flat, splice, put}
 use Rattle.splices.proofs.Splice
 use Rattle.splices.proofs.Chunks
 use Rattle.table.specs.Tests.{datesAt, filled, headerOf}
-use Rattle.table.specs.Written.{holidaysStart, customersStart, totalLength}
 use Rattle.table.proofs.Turns
 
 -- ---- dates that are read
@@ -33,7 +31,7 @@ some-none at n b =
       within = omega arith;
       long = length-replicate {A = ℕ} 200 0;
       these = λ k h. absurd (omega arith);
-      zeros = λ k h j. getD-replicate 200 k 0 0 j
+      zeros = λ k h j. getD-replicate 200 k 0 0 j;
     }
 
 pub some-more : (at n i : ℕ) (b out : List ℕ) (v : ℕ) → n ≤ 200 → i < n → v ≡ numAt 4 (at + 4 * i) b → Some at n i b out → Some at n (i + 1) b (set out i v)
@@ -42,7 +40,7 @@ some-more at n i b out v m h e s =
       within = omega arith;
       long = length-set out i v ∙ s .long;
       these = Chunks.filled-more (λ (k : ℕ). numAt 4 (at + 4 * k) b) out i v (omega (arith, s .long)) e (s .these);
-      zeros = λ k j q. getD-set-other out i k v 0 (λ x. omega arith) ∙ s .zeros k (omega arith) q
+      zeros = λ k j q. getD-set-other out i k v 0 (λ x. omega arith) ∙ s .zeros k (omega arith) q;
     }
 
 pub some-all : (at n i : ℕ) (b out : List ℕ) → n ≤ 200 → at + 4 * n ≤ length b → n ≤ i → Some at n i b out → out ≡ filled (datesAt at n b)

@@ -1,23 +1,21 @@
 -- What is read from bytes fits its place: a list of its width, and numbers of eight bytes.
 -- Assumes nothing.
-use mathlib.Core.Path.{_≡_, refl, sym, ap, _∙_, subst}
-use mathlib.Core.List.{List, [], _∷_, _++_, map}
+use mathlib.Core.Path.{_≡_, refl, subst}
+use mathlib.Core.List.{List}
 use mathlib.Core.Bool.{Bool, true, false}
 use Prim.Native.Nat.{ℕ, zero, suc, _+_, _*_, _^_, _≤_, _<_}
 use native.Mathlib.Omega.{arith}
 use borrow.Author.Tests.{eq-eqb, lt-ltb}
-use lib.Dec.{eqb, ltb}
+use lib.Dec.{eqb}
 use lib.ListN.{length, take, drop, getD, length-drop}
 use lib.Seq.{length-take-le}
-use Rattle.ground.specs.Choice.{both, pick}
+use Rattle.ground.specs.Choice.{pick}
 use Rattle.ground.specs.Lists.{all, part}
 use Rattle.ground.proofs.Choices.{join}
 use Rattle.splices.specs.Bytes.{num, chunks, nums}
 use Rattle.splices.proofs.Splice
 use Rattle.splices.proofs.Splice.{AllBytes}
 use Rattle.splices.proofs.Chunks
-use Rattle.customer.specs.declared.Changeover.{Changeover}
-use Rattle.customer.specs.declared.Previous.{Previous}
 use Rattle.customer.specs.declared.Previous.the-variants.{Nothing, Held}
 use Rattle.record.specs.Layout.{recordWidth, pairWidth, previousWidth, settingsWidth, previousOf, pairOf, customerOf, settingsOf}
 use Rattle.table.specs.Table.{word, previousFits, pairFits, customerFits, settingsFit}

@@ -1,8 +1,7 @@
 -- What is read at a customer's place is the customer there, and past the end stands nobody.
 -- Assumes nothing.
 use mathlib.Core.Path.{_≡_, refl, sym, ap, _∙_}
-use mathlib.Core.List.{List, [], _∷_}
-use mathlib.Core.Bool.{Bool, true, false}
+use mathlib.Core.List.{List, []}
 use Prim.Native.Nat.{ℕ, _+_, _*_, _≤_, _<_}
 use native.Mathlib.Omega.{arith}
 use borrow.Author.Tests.{lt-leb}
@@ -12,9 +11,8 @@ use Rattle.ground.specs.Lists.{part}
 use Rattle.ground.proofs.Choices.{skips}
 use Rattle.splices.specs.Bytes.{num, chunks, nums}
 use Rattle.record.specs.Layout.{recordWidth, settingsWidth, previousOf, pairOf, customerOf, settingsOf, rawAt, customerAt, settingsAt}
-use Rattle.customer.specs.declared.Customer.{Customer}
 use Rattle.table.specs.Table.{Table, nobody, customerIn}
-use Rattle.table.specs.Written.{tableSize, holidaysStart, customersStart}
+use Rattle.table.specs.Written.{tableSize, customersStart}
 use Rattle.table.specs.Decode.{holidayCount, customerCount, tableOf}
 use Rattle.table.specs.Tests.{customersAt}
 use Rattle.table.proofs.Decode.{table-sized, table-other}

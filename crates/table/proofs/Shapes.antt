@@ -1,28 +1,27 @@
 -- A record that fits and is sound is read back as it was written: each of its numbers is below what its bytes hold.
 -- Assumes nothing.
-use mathlib.Core.Path.{_≡_, refl, sym, ap, _∙_}
+use mathlib.Core.Path.{_≡_, refl, sym, _∙_}
 use mathlib.Core.List.{List, [], _∷_}
 use mathlib.Core.Bool.{Bool, true, false}
-use mathlib.Core.Logic.{_⊎_, ⊎-elim}
-use Prim.Native.Nat.{ℕ, zero, suc, _+_, _^_, _≤_, _<_}
+use mathlib.Core.Logic.{⊎-elim}
+use Prim.Native.Nat.{ℕ, zero, suc, _^_, _<_}
 use native.Mathlib.Omega.{arith}
 use borrow.Author.Tests.{eqb-true, leb-true, ltb-true}
-use lib.Dec.{eqb, ltb, leb}
+use lib.Dec.{eqb, ltb}
 use lib.ListN.{length, getD}
 use Rattle.ground.specs.Choice.{both, either, between}
 use Rattle.ground.specs.Lists.{all, member}
 use Rattle.ground.proofs.Choices.{left, right, either-cases, between-true}
 use Rattle.text.specs.Characters.{fieldCharacter, marks}
 use Rattle.calendar.specs.Dates.{realDate}
-use Rattle.customer.specs.Customer.{soundPrevious, soundKeys, realStamp, soundOnce, soundStamps, soundCustomer}
+use Rattle.customer.specs.Customer.{soundPrevious, soundKeys, realStamp, soundStamps, soundCustomer}
 use Rattle.customer.specs.Settings.{soundName, soundWho, soundSettings}
-use Rattle.customer.specs.declared.Changeover.{Changeover}
 use Rattle.customer.specs.declared.Previous.{Previous}
 use Rattle.customer.specs.declared.Previous.the-variants.{Nothing, Held}
 use Rattle.customer.specs.declared.KeyPair.{KeyPair}
 use Rattle.customer.specs.declared.Customer.{Customer}
 use Rattle.customer.specs.declared.Settings.{Settings}
-use Rattle.record.specs.Layout.{ShapedChangeover, ShapedPrevious, ShapedPair, Shaped, ShapedSettings}
+use Rattle.record.specs.Layout.{ShapedPrevious, ShapedPair, Shaped, ShapedSettings}
 use Rattle.table.specs.Table.{word, previousFits, pairFits, customerFits, settingsFit}
 
 -- what holds of each element, and of 0, holds at every place
@@ -87,7 +86,7 @@ previous-shaped current (Held p) f e =
       generation = let h = leb-true (p .generation) 9 (left _ _ e) in omega arith;
       key = word-lt (p .key) f;
       first = real-lt (p .first .yymmdd) (left _ _ e₃);
-      last = real-lt (p .last .yymmdd) (left _ _ e₄)
+      last = real-lt (p .last .yymmdd) (left _ _ e₄);
     }
 
 pair-shaped : (k : KeyPair) → pairFits k ≡ true → soundKeys k ≡ true → ShapedPair k
@@ -96,7 +95,7 @@ pair-shaped k f e =
     record {
       generation = let h = leb-true (k .generation) 9 (left _ _ e) in omega arith;
       key = word-lt (k .key) (left _ _ f);
-      previous = previous-shaped (k .generation) (k .previous) (right _ _ f) (right _ _ (right _ _ e))
+      previous = previous-shaped (k .generation) (k .previous) (right _ _ f) (right _ _ (right _ _ e));
     }
 
 -- ---- stamps
@@ -141,7 +140,7 @@ customer-shaped c f e =
       stamps = ss;
       stamps-fit = stamps-lt (c .count) (c .stamps) (c .once) (right _ _ e₅) (ss ∙ sym ks);
       once = ks;
-      once-fit = each-below word (2 ^ 64) word-lt (omega arith) (c .once) (left _ _ f₃)
+      once-fit = each-below word (2 ^ 64) word-lt (omega arith) (c .once) (left _ _ f₃);
     }
 
 pub settings-shaped : (s : Settings) → settingsFit s ≡ true → soundSettings s ≡ true → ShapedSettings s
@@ -157,5 +156,5 @@ settings-shaped s f e =
       software-bytes = each-below fieldCharacter 256 field-lt (omega arith) (s .software) (left _ _ (left _ _ e₁));
       floor = ⊎-elim (λ (p : eqb (s .floor) 110 ≡ true). let q = eqb-true (s .floor) 110 p in omega arith) (λ (p : eqb (s .floor) 120 ≡ true). let q = eqb-true (s .floor) 120 p in omega arith) (either-cases _ _ (right _ _ e₁));
       key = word-lt (s .maker .key) (left _ _ f₂);
-      seed = word-lt (s .maker .seed) (right _ _ f₂)
+      seed = word-lt (s .maker .seed) (right _ _ f₂);
     }

@@ -1,22 +1,19 @@
 -- What is right of a sound table, and that the changes which a call may make keep it so: each is one part of the test.
 -- Assumes nothing.
-use mathlib.Core.Path.{_≡_, refl, sym, ap, _∙_}
-use mathlib.Core.List.{List, [], _∷_, _++_}
-use mathlib.Core.Bool.{Bool, true, false}
+use mathlib.Core.Path.{_≡_}
+use mathlib.Core.List.{[], _∷_, _++_}
+use mathlib.Core.Bool.{true}
 use Prim.Native.Nat.{ℕ, _+_, _≤_, _<_, _^_}
 use native.Mathlib.Omega.{arith}
 use borrow.Author.Tests.{leb-true, le-leb, lt-ltb}
-use lib.Dec.{leb, ltb}
 use lib.ListN.{length, set, length-set, length-append}
-use Rattle.ground.specs.Choice.{both}
 use Rattle.ground.specs.Lists.{all}
 use Rattle.ground.proofs.Choices.{left, right, join}
 use Rattle.calendar.specs.Dates.{realDate}
 use Rattle.customer.specs.Customer.{soundCustomer}
 use Rattle.customer.specs.Settings.{soundSettings}
 use Rattle.customer.specs.declared.Customer.{Customer}
-use Rattle.customer.specs.declared.Settings.{Settings}
-use Rattle.table.specs.Table.{Table, word, customerFits, settingsFit, rising, distinct, eachSound, soundTable, placeOf, customerIn, withCustomer, withAdded, withDay, withSeed}
+use Rattle.table.specs.Table.{Table, customerFits, settingsFit, rising, distinct, eachSound, soundTable, placeOf, customerIn, withCustomer, withAdded, withDay, withSeed}
 use Rattle.table.specs.declared.Found.the-variants.{At, Unknown}
 use Rattle.table.proofs.Places
 
@@ -49,7 +46,7 @@ parts t e =
       rises = left _ _ e₄;
       customers = leb-true _ _ (left _ _ e₅);
       each = left _ _ e₆;
-      distinct = right _ _ e₆
+      distinct = right _ _ e₆;
     }
 
 pub whole : (t : Table) → Sound t → soundTable t ≡ true
@@ -80,7 +77,7 @@ sound-with t i c e f o w =
       rises = s .rises;
       customers = omega (arith, s .customers);
       each = Places.each-set (t .customers) i c (join _ _ f o) (s .each);
-      distinct = Places.distinct-with t i c w (s .distinct)
+      distinct = Places.distinct-with t i c w (s .distinct);
     })
 
 -- one customer more, whose name is not there, where there is room
@@ -100,7 +97,7 @@ sound-added t c e f o u n =
       rises = s .rises;
       customers = omega arith;
       each = Places.each-more (t .customers) c (join _ _ f o) (s .each);
-      distinct = Places.distinct-more (t .customers) c (Places.unknown-of t (c .who) u) (s .distinct)
+      distinct = Places.distinct-more (t .customers) c (Places.unknown-of t (c .who) u) (s .distinct);
     })
 
 -- another real day
@@ -118,7 +115,7 @@ sound-day t d e r =
       rises = s .rises;
       customers = s .customers;
       each = s .each;
-      distinct = s .distinct
+      distinct = s .distinct;
     })
 
 -- another seed of eight bytes
@@ -139,7 +136,7 @@ sound-seed t v e h =
       rises = s .rises;
       customers = s .customers;
       each = s .each;
-      distinct = s .distinct
+      distinct = s .distinct;
     })
 
 -- each customer's name is found at its own place

@@ -2,21 +2,18 @@
 -- Assumes nothing.
 use mathlib.Core.Path.{_≡_, refl, sym, ap, ap₂, _∙_, subst}
 use mathlib.Core.List.{List, [], _∷_, _++_, append-assoc, append-nil}
-use mathlib.Core.Bool.{Bool, true}
-use Prim.Native.Nat.{ℕ, zero, suc, _+_, _*_, _^_, _≤_, _<_}
+use mathlib.Core.Bool.{true}
+use Prim.Native.Nat.{ℕ, suc, _+_, _*_, _≤_, _<_}
 use native.Mathlib.Omega.{arith}
 use borrow.Author.Tests.{eqb-true, eq-eqb, lt-ltb, le-leb}
-use lib.Dec.{eqb, ltb, leb}
-use lib.ListN.{length, take, drop, getD, set, length-append, length-set, length-drop, take-append-drop}
-use lib.Seq.{drop-at, length-take-le, split-at, set-split, drop-drop}
-use Rattle.ground.specs.Choice.{both, pick}
+use lib.Dec.{eqb}
+use lib.ListN.{length, take, drop, getD, set, length-append, length-set, take-append-drop}
+use lib.Seq.{drop-at, length-take-le, split-at, set-split}
 use Rattle.ground.proofs.Choices.{left, right, join, picks}
-use Rattle.calendar.specs.Dates.{realDate}
 use Rattle.splices.specs.Bytes.{bytesOf, bytesOfAll, flat, joined, put}
 use Rattle.splices.proofs.Splice
 use Rattle.splices.proofs.Chunks
 use Rattle.record.specs.Layout.{recordWidth, settingsWidth, customerBytes, settingsBytes}
-use Rattle.customer.specs.Customer.{soundCustomer}
 use Rattle.customer.specs.declared.Customer.{Customer}
 use Rattle.customer.specs.declared.Settings.{Settings}
 use Rattle.table.specs.Table.{Table, customerFits, settingsFit, soundTable, nobody, withCustomer, withAdded, withDay, withSeed}

@@ -1,17 +1,17 @@
 -- A turn of the loops over dates and over records: the first of a run, and the run past it.
 -- Assumes nothing.
-use mathlib.Core.Path.{_≡_, refl, sym, ap, ap₂, _∙_}
-use mathlib.Core.List.{List, [], _∷_, _++_, map}
+use mathlib.Core.Path.{_≡_, refl, sym, ap, _∙_}
+use mathlib.Core.List.{List, [], _∷_}
 use mathlib.Core.Bool.{Bool, true, false}
 use Prim.Native.Nat.{ℕ, zero, suc, _+_, _*_, _≤_, _<_}
 use native.Mathlib.Nat.{add-zero, not-suc-le-zero, le-of-suc-le-suc}
 use native.Mathlib.Omega.{arith}
-use borrow.Author.Tests.{le-leb, lt-leb}
+use borrow.Author.Tests.{le-leb}
 use lib.ListN.{length, take, drop, getD, length-map}
 use lib.Seq.{drop-drop}
 use Rattle.ground.specs.Choice.{both, pick}
 use Rattle.ground.specs.Lists.{all, part, same}
-use Rattle.ground.proofs.Choices.{picks, skips, decides}
+use Rattle.ground.proofs.Choices.{picks, decides}
 use Rattle.calendar.specs.Dates.{realDate, earlier}
 use Rattle.splices.specs.Bytes.{num, numAt, chunks, nums}
 use Rattle.splices.proofs.Splice
@@ -46,7 +46,7 @@ pub dates-length : (p n : ℕ) (b : List ℕ) → length (datesAt p n b) ≡ n
 unfolding datesAt
 dates-length p n b = Chunks.nums-length 4 n (drop p b)
 
-pub getD-dates : (p n : ℕ) (b : List ℕ) (k : ℕ) → k < n → p + 4 * n ≤ length b → numAt 4 (p + 4 * k) b ≡ getD (datesAt p n b) k 0 
+pub getD-dates : (p n : ℕ) (b : List ℕ) (k : ℕ) → k < n → p + 4 * n ≤ length b → numAt 4 (p + 4 * k) b ≡ getD (datesAt p n b) k 0
 unfolding datesAt part
 getD-dates p n b k h w =
     Splice.numAt-fits 4 (p + 4 * k) b (omega arith)
@@ -130,6 +130,16 @@ pub records-step : (c : Customer) (p n m : ℕ) (b : List ℕ) → n ≡ suc m �
     ≡ both (exactAt p b) (both (soundCustomer c) (both (isUnknown (placeFrom 0 (c .who) (customersAt (p + recordWidth) m b))) (okRecords m (p + recordWidth) b)))
 unfolding okRecords
 records-step c p n m b e f = rw (e, f)
+
+-- the record is exact and sound: the search for its name comes next
+pub records-turn : (c : Customer) (f : Found) (p n m : ℕ) (b : List ℕ) → n ≡ suc m → exactAt p b ≡ true → c ≡ customerAt p b
+    → soundCustomer c ≡ true → f ≡ placeFrom 0 (c .who) (customersAt (p + recordWidth) m b)
+    → okRecords n p b ≡ both (isUnknown f) (okRecords m (p + recordWidth) b)
+records-turn c f p n m b e x a s q =
+    records-step c p n m b e a
+    ∙ decides _ _ x
+    ∙ decides _ _ s
+    ∙ ap (λ (g : Found). both (isUnknown g) (okRecords m (p + recordWidth) b)) (sym q)
 
 pub records-end : (p n : ℕ) (b : List ℕ) → n ≡ 0 → true ≡ okRecords n p b
 unfolding okRecords

@@ -27,7 +27,7 @@ tableOf b =
       day = numAt 4 4 b;
       settings = settingsAt settingsStart b;
       holidays = nums 4 (holidayCount b) (drop holidaysStart b);
-      customers = map customerOf (chunks recordWidth (customerCount b) (drop (customersStart (holidayCount b)) b))
+      customers = map customerOf (chunks recordWidth (customerCount b) (drop (customersStart (holidayCount b)) b));
     })
     (record { day = 0; settings = settingsAt 0 []; holidays = []; customers = [] })
 

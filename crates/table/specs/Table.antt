@@ -113,7 +113,7 @@ nobody =
       working = noKeys;
       count = 0;
       stamps = replicate 64 0;
-      once = replicate 64 0
+      once = replicate 64 0;
     }
 
 unfoldable pub customerIn : Table → ℕ → Customer
@@ -140,8 +140,8 @@ withSeed t v =
             bank = t .settings .bank;
             software = t .settings .software;
             floor = t .settings .floor;
-            maker = record { key = t .settings .maker .key; seed = v }
+            maker = record { key = t .settings .maker .key; seed = v };
           };
       holidays = t .holidays;
-      customers = t .customers
+      customers = t .customers;
     }

@@ -1,5 +1,5 @@
 -- The records that are searched are those of the table.
-use mathlib.Core.Path.{_≡_, sym, ap, ap₂, _∙_}
+use mathlib.Core.Path.{sym, ap, ap₂, _∙_}
 use Prim.Native.Nat.{ℕ}
 use Rattle.table.specs.Table.{Table, placeFrom, placeOf}
 use Rattle.table.specs.Tests.{customersAt}

@@ -1,13 +1,10 @@
 -- The count of the header is the number of dates that are read.
 use mathlib.Core.Path.{_≡_, sym, ap, _∙_}
-use mathlib.Core.List.{List}
 use Prim.Native.Nat.{ℕ}
 use lib.ListN.{length}
-use Rattle.table.specs.Table.{Table}
 use Rattle.table.specs.Written.{holidaysStart}
 use Rattle.table.specs.Tests.{datesAt, filled}
 use Rattle.table.specs.Stored.{holidaysOf}
-use Rattle.table.specs.declared.Holidays.{Holidays}
 use Rattle.table.proofs.Decode.{table-sized, table-other}
 use Rattle.table.proofs.Turns.{dates-length}
 use borrow.Author.Needs.{needs}

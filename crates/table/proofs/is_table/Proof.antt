@@ -1,18 +1,13 @@
 -- Each test that fails is one that every table passes, and bytes that pass them all are what the table they say is written as.
 use mathlib.Core.Path.{_≡_, sym, ap, ap₂, _∙_}
-use mathlib.Core.Bool.{true, false}
 use Prim.Native.Nat.{ℕ}
 use borrow.Author.Tests.{ne-eqb, eq-eqb, not-true, not-false}
-use lib.Dec.{eqb}
-use lib.ListN.{length}
 use Rattle.calendar.specs.Dates.{realDate}
-use Rattle.splices.specs.Bytes.{numAt}
-use Rattle.record.specs.Layout.{settingsAt}
 use Rattle.customer.specs.Settings.{soundSettings}
-use Rattle.table.specs.Written.{tableSize, settingsStart, holidaysStart, customersStart}
+use Rattle.table.specs.Written.{holidaysStart, customersStart}
 use Rattle.table.specs.Decode.{holidayCount, customerCount}
-use Rattle.table.specs.Tests.{datesAt, okHeader, okDates, okRecords}
-use Rattle.table.proofs.Exact.{Facts, no-table, last-of-table}
+use Rattle.table.specs.Tests.{datesAt, okDates, okRecords}
+use Rattle.table.proofs.Exact.{no-table, last-of-table}
 use borrow.Author.Needs.{needs}
 use Rattle.table.proofs.is_table.Statement.{statement}
 use Rattle.table.proofs.is_table.Tie as tie
@@ -83,7 +78,7 @@ returns-6 c =
           ap (λ (n : ℕ). okDates (datesAt holidaysStart n b)) (sym (c .before .before .before .before .before .count-at .ensures .0))
           ∙ sym (c .before .before .before .before .are-dates .ensures)
           ∙ not-false _ (c .before .before .before .if5 .left);
-      records = sym last ∙ e
+      records = sym last ∙ e;
     })
     (λ f. last ∙ f .records)
 

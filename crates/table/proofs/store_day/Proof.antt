@@ -1,5 +1,5 @@
 -- The day is written where it stands, if the length is right.
-use mathlib.Core.Path.{_≡_, sym, ap, _∙_}
+use mathlib.Core.Path.{sym, _∙_}
 use borrow.Author.Tests.{ne-eqb, eq-eqb}
 use Rattle.ground.proofs.Choices.{picks, skips}
 use Rattle.table.specs.Stored.{dayStored}

@@ -1,5 +1,5 @@
 -- Six writes that adjoin are one.
-use mathlib.Core.Path.{_≡_, sym, ap, _∙_}
+use mathlib.Core.Path.{ap, _∙_}
 use Prim.Native.Nat.{_+_, _*_}
 use Rattle.splices.specs.Bytes.{bytesOf, put}
 use Rattle.table.proofs.Filled.{new-header}

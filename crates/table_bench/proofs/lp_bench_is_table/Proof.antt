@@ -37,9 +37,9 @@ loop-again c =
       omega arith,
       ⊎-elim (λ w. omega arith) (λ w. omega arith) (c .if1 .came),
       ⊎-elim
-      (λ w. w .1 ∙ held _ _ _ (sym (c .before .is-table .ensures) ∙ w .0 .taken) (at .loop .inv .2))
-      (λ w. w .1 ∙ failed _ _ _ (sym (c .before .is-table .ensures) ∙ w .0 .left) (at .loop .inv .2))
-      (c .if1 .came),
+          (λ w. w .1 ∙ held _ _ _ (sym (c .before .is-table .ensures) ∙ w .0 .taken) (at .loop .inv .2))
+          (λ w. w .1 ∙ failed _ _ _ (sym (c .before .is-table .ensures) ∙ w .0 .left) (at .loop .inv .2))
+          (c .if1 .came),
     )
 
 returns : tie.Need-returns Inv-loop μ-loop

@@ -43,12 +43,13 @@ loop-less c = omega arith
 loop-again : tie.Need-loop-again Inv-loop μ-loop
 loop-again c =
     let l = c .before .before .before .loop in
-    let a = c .before .before .before .before .before .args in
-    (omega arith,
-     omega arith,
-     l .inv .2
-         ∙ Turns.place-step (l .i) (a .who) (l .p) (a .n - l .i) (a .n - (l .i + 1)) (a .t .now) (omega arith)
-         ∙ skips _ _ _ (sym (c .before .same-at .ensures) ∙ c .if1 .left))
+    let a = c .before .before .before .before .before .args in (
+      omega arith,
+      omega arith,
+      l .inv .2
+          ∙ Turns.place-step (l .i) (a .who) (l .p) (a .n - l .i) (a .n - (l .i + 1)) (a .t .now) (omega arith)
+          ∙ skips _ _ _ (sym (c .before .same-at .ensures) ∙ c .if1 .left),
+    )
 
 returns-2 : tie.Need-returns-2 Inv-loop μ-loop
 returns-2 c =

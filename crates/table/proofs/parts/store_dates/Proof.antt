@@ -1,7 +1,7 @@
 -- The dates passed are written one after the other, and each turn writes the next past them.
-use mathlib.Core.Path.{_≡_, refl, sym, ap, _∙_}
+use mathlib.Core.Path.{_≡_, refl, ap, _∙_}
 use mathlib.Core.List.{List}
-use Prim.Native.Nat.{_+_, _*_, _-_, _≤_}
+use Prim.Native.Nat.{_-_, _≤_}
 use borrow.Author.Needs.{needs}
 use native.Mathlib.Omega.{arith}
 use lib.ListN.{length, take}
@@ -45,10 +45,11 @@ loop-again : tie.Need-loop-again Inv-loop μ-loop
 loop-again c =
     let w = c .before .before .write4 in
     let l = c .before .before .before .before .before .before .loop in
-    let a = c .before .before .before .before .before .before .before .before .before in
-    (omega arith,
-     omega (arith, w .kept),
-     put-dates (a .args .at) (l .i) (a .args .dates .now) (l .t) (w .last .0) (a .args .t .now) (omega arith) (omega (arith, a .pre)) (l .inv .2) (w .ensures))
+    let a = c .before .before .before .before .before .before .before .before .before in (
+      omega arith,
+      omega (arith, w .kept),
+      put-dates (a .args .at) (l .i) (a .args .dates .now) (l .t) (w .last .0) (a .args .t .now) (omega arith) (omega (arith, a .pre)) (l .inv .2) (w .ensures),
+    )
 
 same-length : tie.Need-same-length Inv-loop μ-loop
 same-length c = omega arith

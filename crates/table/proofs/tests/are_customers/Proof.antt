@@ -1,13 +1,10 @@
 -- The records that are left decide: each turn tests one of them, and looks for its name among those after it.
-use mathlib.Core.Path.{_≡_, refl, sym, ap, _∙_}
-use mathlib.Core.Bool.{true, false}
-use Prim.Native.Nat.{_+_, _*_, _-_, _≤_}
+use mathlib.Core.Path.{_≡_, refl, sym, _∙_}
+use Prim.Native.Nat.{_+_, _*_, _-_}
 use native.Mathlib.Omega.{arith}
-use borrow.Author.Needs.{needs}
 use borrow.Author.Tests.{not-true, not-false}
 use Rattle.ground.proofs.Choices.{fails-left, decides}
 use Rattle.record.specs.Layout.{customerAt}
-use Rattle.table.specs.Table.{isUnknown}
 use Rattle.table.specs.Tests.{okRecords}
 use Rattle.table.proofs.Turns
 use Rattle.table.proofs.tests.are_customers.Statement.{statement}
@@ -66,11 +63,12 @@ returns-3 c =
     let l = c .before .before .before .before .before .before .before .before .before .before .loop in
     let b = c .before .before .before .before .before .before .before .before .before .before .before .before .args .t .now in
     let x = c .before .before .before .before .before .before .load-at in
+    let f = c .before .before .find-from in
+    let e = sym (c .before .before .before .before .before .before .before .before .is-exact-at .ensures) ∙ not-false _ (c .before .before .before .before .before .before .before .if1 .left) in
+    let s = sym (c .before .before .before .before .before .is-sound .ensures) ∙ not-false _ (c .before .before .before .before .if2 .left) in
     sym (l .inv .1
-    ∙ Turns.records-step (x .result) (l .p) (l .left) (l .left - 1) b (omega arith) (x .ensures)
-    ∙ decides _ _ (sym (c .before .before .before .before .before .before .before .before .is-exact-at .ensures) ∙ not-false _ (c .before .before .before .before .before .before .before .if1 .left))
-    ∙ decides _ _ (sym (c .before .before .before .before .before .is-sound .ensures) ∙ not-false _ (c .before .before .before .before .if2 .left))
-    ∙ fails-left _ _ (ap isUnknown (sym (c .before .before .find-from .ensures)) ∙ sym (c .before .is-unknown .ensures) ∙ not-true _ (c .if3 .taken)))
+    ∙ Turns.records-turn (x .result) (f .result) (l .p) (l .left) (l .left - 1) b (omega arith) e (x .ensures) s (f .ensures)
+    ∙ fails-left _ _ (sym (c .before .is-unknown .ensures) ∙ not-true _ (c .if3 .taken)))
 
 loop-less : tie.Need-loop-less Inv-loop μ-loop
 loop-less c = omega arith
@@ -80,12 +78,14 @@ loop-again c =
     let l = c .before .before .before .before .before .before .before .before .before .before .loop in
     let b = c .before .before .before .before .before .before .before .before .before .before .before .before .args .t .now in
     let x = c .before .before .before .before .before .before .load-at in
-    (omega arith,
-     l .inv .1
-         ∙ Turns.records-step (x .result) (l .p) (l .left) (l .left - 1) b (omega arith) (x .ensures)
-         ∙ decides _ _ (sym (c .before .before .before .before .before .before .before .before .is-exact-at .ensures) ∙ not-false _ (c .before .before .before .before .before .before .before .if1 .left))
-         ∙ decides _ _ (sym (c .before .before .before .before .before .is-sound .ensures) ∙ not-false _ (c .before .before .before .before .if2 .left))
-         ∙ decides _ _ (ap isUnknown (sym (c .before .before .find-from .ensures)) ∙ sym (c .before .is-unknown .ensures) ∙ not-false _ (c .if3 .left)))
+    let f = c .before .before .find-from in
+    let e = sym (c .before .before .before .before .before .before .before .before .is-exact-at .ensures) ∙ not-false _ (c .before .before .before .before .before .before .before .if1 .left) in
+    let s = sym (c .before .before .before .before .before .is-sound .ensures) ∙ not-false _ (c .before .before .before .before .if2 .left) in (
+      omega arith,
+      l .inv .1
+          ∙ Turns.records-turn (x .result) (f .result) (l .p) (l .left) (l .left - 1) b (omega arith) e (x .ensures) s (f .ensures)
+          ∙ decides _ _ (sym (c .before .is-unknown .ensures) ∙ not-false _ (c .if3 .left)),
+    )
 
 returns-4 : tie.Need-returns-4 Inv-loop μ-loop
 returns-4 c =

@@ -1,8 +1,7 @@
 -- The dates from the last one passed decide: each turn tests that it is real and earlier than the next.
 use mathlib.Core.Path.{_≡_, sym, ap, _∙_}
-use mathlib.Core.Bool.{true, false}
-use mathlib.Core.List.{List, _∷_}
-use Prim.Native.Nat.{ℕ, suc, _+_, _*_, _-_, _≤_}
+use mathlib.Core.List.{_∷_}
+use Prim.Native.Nat.{ℕ, suc, _+_, _*_, _-_}
 use borrow.Author.Needs.{needs}
 use borrow.Author.Tests.{not-true, not-false}
 use native.Mathlib.Omega.{arith}
@@ -32,10 +31,11 @@ sub-left c = omega arith
 loop-holds : tie.Need-loop-holds Inv-loop μ-loop
 loop-holds c =
     let a = c .before .before .before in
-    let e : a .args .n ≡ suc (a .args .n - 1) = omega arith in
-    (omega arith,
-     ap okDates (Turns.dates-suc (a .args .at) (a .args .n) (a .args .n - 1) (a .args .t .now) e
-     ∙ ap (λ (x : ℕ). x ∷ datesAt (a .args .at + 4) (a .args .n - 1) (a .args .t .now)) (sym (c .read4 .ensures ∙ numAt-fits 4 _ _ (omega (arith, a .pre))))))
+    let e : a .args .n ≡ suc (a .args .n - 1) = omega arith in (
+      omega arith,
+      ap okDates (Turns.dates-suc (a .args .at) (a .args .n) (a .args .n - 1) (a .args .t .now) e
+          ∙ ap (λ (x : ℕ). x ∷ datesAt (a .args .at + 4) (a .args .n - 1) (a .args .t .now)) (sym (c .read4 .ensures ∙ numAt-fits 4 _ _ (omega (arith, a .pre))))),
+    )
 
 is-real-requires : tie.Need-is-real-requires Inv-loop μ-loop
 is-real-requires c κs = search needs

@@ -1,10 +1,9 @@
 -- Each test is one part of what a header says, and the last decides where the others hold.
-use mathlib.Core.Path.{_≡_, sym, ap, _∙_}
-use mathlib.Core.Bool.{true, false}
+use mathlib.Core.Path.{sym, _∙_}
 use Prim.Native.Nat.{_+_, _*_}
 use native.Mathlib.Omega.{arith}
 use borrow.Author.Tests.{eqb-true, eq-eqb}
-use Rattle.table.proofs.Exact.{Header, no-header, last-of-header}
+use Rattle.table.proofs.Exact.{no-header, last-of-header}
 use borrow.Author.Needs.{needs}
 use Rattle.table.proofs.tests.is_header.Statement.{statement}
 use Rattle.table.proofs.tests.is_header.Tie as tie
@@ -61,7 +60,7 @@ returns-5 c =
       customers = omega (arith, c .before .before .before .before .before .if2 .left);
       start = sym (c .before .before .before .before .read43 .ensures) ∙ c .before .before .before .if3 .left;
       offset = omega (arith, c .before .before .read44 .ensures, c .before .if4 .left);
-      total = omega (arith, c .read45 .ensures, eqb-true (c .read45 .result) (82 + 4 * n₈ + 1109 * n₁₆) e)
+      total = omega (arith, c .read45 .ensures, eqb-true (c .read45 .result) (82 + 4 * n₈ + 1109 * n₁₆) e);
     })
     (λ h. eq-eqb (c .read45 .result) (82 + 4 * n₈ + 1109 * n₁₆) (omega (arith, c .read45 .ensures, h .total)))
 

@@ -1,0 +1,61 @@
+-- What is left of the dates decides.
+use mathlib.Core.Path.{_≡_, refl}
+use Prim.Native.Nat.{_≤_, _-_}
+use native.Mathlib.Omega.{arith}
+use lib.ListN.{length, drop}
+use Rattle.ground.specs.Lists.{all}
+use Rattle.calendar.specs.Dates.{realDate}
+use Rattle.customer.proofs.Chain.{refused, passed}
+use Rattle.register.proofs.Dates.{all-stop, all-more, all-done}
+use borrow.Author.Needs.{needs}
+use Rattle.register.proofs.are_real.Statement.{statement}
+use Rattle.register.proofs.are_real.Tie as tie
+
+abbrev Inv-loop : tie.InvT-loop
+Inv-loop dates i₀ i = (i ≤ length dates) × (all realDate dates ≡ all realDate (drop i dates))
+
+abbrev μ-loop : tie.MeasureT-loop
+μ-loop dates i₀ i = length dates - i
+
+loop-holds : tie.Need-loop-holds Inv-loop μ-loop
+loop-holds c = (omega arith, refl)
+
+mul-t4 : tie.Need-mul-t4 Inv-loop μ-loop
+mul-t4 c = search needs
+
+shared-slice-read-t7 : tie.Need-shared-slice-read-t7 Inv-loop μ-loop
+shared-slice-read-t7 c = search needs
+
+is-real-requires : tie.Need-is-real-requires Inv-loop μ-loop
+is-real-requires c κs = search needs
+
+returns : tie.Need-returns Inv-loop μ-loop
+returns c = all-stop (c .before .before .before .before .before .before .args .dates .now) (c .before .before .before .before .loop .i) (c .before .before .before .loop-test .taken) (c .before .before .before .before .loop .inv .1) (refused (c .before .is-real .ensures) (c .if1 .taken))
+
+add-i : tie.Need-add-i Inv-loop μ-loop
+add-i c = search needs
+
+loop-less : tie.Need-loop-less Inv-loop μ-loop
+loop-less c = search needs
+
+loop-again : tie.Need-loop-again Inv-loop μ-loop
+loop-again c = (omega arith, all-more (c .before .before .before .before .before .before .args .dates .now) (c .before .before .before .before .loop .i) (c .before .before .before .loop-test .taken) (c .before .before .before .before .loop .inv .1) (passed (c .before .is-real .ensures) (c .if1 .left)))
+
+returns-2 : tie.Need-returns-2 Inv-loop μ-loop
+returns-2 c = all-done (c .before .before .before .args .dates .now) (c .before .loop .i) (omega arith) (c .before .loop .inv .1)
+
+pub are-real-spec : {M : Type 1} → statement M
+are-real-spec =
+    tie.close
+    (tie.spec
+    Inv-loop
+    μ-loop
+    loop-holds
+    mul-t4
+    shared-slice-read-t7
+    is-real-requires
+    returns
+    add-i
+    loop-less
+    loop-again
+    returns-2)

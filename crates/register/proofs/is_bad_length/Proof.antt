@@ -1,0 +1,34 @@
+-- A length that is given lies below, above or within the limits; none is never out of them.
+use Rattle.register.specs.Refusals.{badLength}
+use Rattle.register.proofs.Refused.{too-short, too-long}
+use borrow.Author.Needs.{needs}
+use Rattle.register.proofs.is_bad_length.Statement.{statement}
+use Rattle.register.proofs.is_bad_length.Tie as tie
+
+enum-known-l : tie.Need-enum-known-l
+enum-known-l c = search needs
+
+returns : tie.Need-returns
+unfolding badLength
+returns c = rw (c .before .before .l .given .1) (too-short _ (c .if1 .taken))
+
+enum-told : tie.Need-enum-told
+enum-told c = search needs
+
+returns-2 : tie.Need-returns-2
+unfolding badLength
+returns-2 c = rw (c .before .before .l .given .1) (too-long _ (c .if1 .left))
+
+returns-3 : tie.Need-returns-3
+unfolding badLength
+returns-3 c = rw (c .enum-told .given .1)
+
+pub is-bad-length-spec : {M : Type 1} → statement M
+is-bad-length-spec =
+    tie.close
+    (tie.spec
+    enum-known-l
+    returns
+    enum-told
+    returns-2
+    returns-3)

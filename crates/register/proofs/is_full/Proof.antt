@@ -1,0 +1,21 @@
+-- The customers are counted.
+use mathlib.Core.Path.{ap}
+use lib.Dec.{leb}
+use Rattle.register.specs.Refusals.{tableFull}
+use borrow.Author.Needs.{needs}
+use Rattle.register.proofs.is_full.Statement.{statement}
+use Rattle.register.proofs.is_full.Tie as tie
+
+customer-count-requires : tie.Need-customer-count-requires
+customer-count-requires c κs = search needs
+
+returns : tie.Need-returns
+unfolding tableFull
+returns c = ap (leb 32) (c .customer-count .ensures)
+
+pub is-full-spec : {M : Type 1} → statement M
+is-full-spec =
+    tie.close
+    (tie.spec
+    customer-count-requires
+    returns)

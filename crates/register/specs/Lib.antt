@@ -1,0 +1,3 @@
+-- What the contracts of `register` cite.
+pub mod Refusals
+pub mod Calls

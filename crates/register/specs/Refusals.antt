@@ -1,0 +1,66 @@
+-- When a call can't be served: each condition in document 01's words ('Call refusals'), apart from the walk that picks the lowest.
+-- Assumes nothing.
+use Prim.Native.Nat.{ℕ, _+_}
+use mathlib.Core.Bool.{Bool, true, false}
+use mathlib.Core.List.{List, [], _∷_}
+use lib.Dec.{eqb, ltb, leb}
+use lib.ListN.{length}
+use Rattle.ground.specs.Choice.{both, either, fails, pick, between}
+use Rattle.calendar.specs.Dates.{realDate, earlier}
+use Rattle.keys.specs.Parity.{oddParity}
+use Rattle.keys.specs.Keys.{combined, checkValue, nextGeneration}
+use Rattle.table.specs.Table.{Table, placeOf, isUnknown}
+use Rattle.table.specs.Decode.{tableOf, isTable}
+use Rattle.register.specs.declared.Length.{Length}
+use Rattle.register.specs.declared.Length.the-variants.{Given, LeftOut}
+
+-- a refusal's number, and whether its condition holds
+pub record Refusal : Type 0 where
+  pub number : ℕ
+  pub holds : Bool
+
+abbrev pub refusal : ℕ → Bool → Refusal
+refusal n h = record { number = n; holds = h }
+
+-- the first of the list whose condition holds; 0 where none does, and the call is served
+unfoldable pub lowest : List Refusal → ℕ
+lowest [] = 0
+lowest (r ∷ rs) = pick (r .holds) (r .number) (lowest rs)
+
+-- ---- the conditions
+
+-- 2: no table is written as these bytes
+unfoldable pub noTable : List ℕ → Bool
+noTable b = fails (isTable b)
+
+-- 4: date not real, or day before the table's
+unfoldable pub badDay : Table → ℕ → Bool
+badDay t today = either (fails (realDate today)) (earlier today (t .day))
+
+-- 5: 33rd customer
+unfoldable pub tableFull : Table → Bool
+tableFull t = leb 32 (length (t .customers))
+
+-- 6: identity and qualifier already there; 7: no such customer
+unfoldable pub alreadyThere : Table → List ℕ → Bool
+alreadyThere t who = fails (isUnknown (placeOf t who))
+
+unfoldable pub noSuchCustomer : Table → List ℕ → Bool
+noSuchCustomer t who = isUnknown (placeOf t who)
+
+-- 8: a key part's parity is even
+unfoldable pub evenPart : ℕ → ℕ → Bool
+evenPart part1 part2 = either (fails (oddParity part1)) (fails (oddParity part2))
+
+-- 9: check value differs
+unfoldable pub checkDiffers : ℕ → ℕ → ℕ → Bool
+checkDiffers part1 part2 check = fails (eqb (checkValue (combined part1 part2)) check)
+
+-- 10: new transport generation isn't the next
+unfoldable pub notNext : ℕ → ℕ → Bool
+notNext current new = fails (eqb (nextGeneration current) new)
+
+-- a changeover length of 1 to 60; where none is given there is nothing to be out of its limits
+unfoldable pub badLength : Length → Bool
+badLength (Given n) = fails (between 1 60 n)
+badLength LeftOut = false

@@ -1,0 +1,200 @@
+-- What every reply keeps: its length, its checksum, and what stands in its fields.
+-- Assumes nothing.
+use mathlib.Core.Path.{_≡_, refl, sym, ap, _∙_}
+use mathlib.Core.Bool.{Bool, true, false}
+use mathlib.Core.List.{List, [], _++_, append-assoc}
+use Prim.Native.Nat.{ℕ, _+_, _≤_}
+use native.Mathlib.Omega.{arith}
+use borrow.Author.Tests.{leb-true}
+use lib.Dec.{leb}
+use lib.ListN.{length, take, drop, replicate, length-append}
+use lib.Seq.{take-at, drop-at, take-all}
+use Rattle.ground.specs.Choice.{pick}
+use Rattle.ground.specs.Lists.{part, overlay}
+use Rattle.ground.proofs.Choices.{picks, skips}
+use Rattle.text.specs.Characters.{blank}
+use Rattle.text.specs.Letters.{letters}
+use Rattle.text.specs.Numbers.{decimalDigits, hexDigits}
+use Rattle.text.proofs.Lists.{picked}
+use Rattle.digest.specs.Mac.{checksumOf}
+use Rattle.changeover.specs.declared.Key.{Key}
+use Rattle.changeover.specs.declared.Key.the-variants.{Missing, Is}
+use Rattle.message.specs.Layout.{fieldText, offsetIn, widthIn}
+use Rattle.message.specs.Fields.{receiverOf, senderOf, stampTextOf}
+use Rattle.reply.specs.Codes.{codeIn, codes}
+use Rattle.reply.specs.Reply.{hexOr, sealedFlag, opening, fullBody, bareBody, head, summed, checksumKey, enclosedKey, noticeOf, replyOf, replyLength, replied}
+use Rattle.reply.specs.declared.Answering.{Answering}
+use Rattle.reply.proofs.Keys.{hex-or-length, flag-length}
+use Rattle.reply.proofs.Widths.{pick-length, part-length, opening-length, bare-length, full-length, notice-length}
+
+-- ---- lengths
+
+-- what comes after the notice makes up the length
+pub receipt-length : (pte : Bool) → 237 + length (pick pte (replicate 80 blank) []) ≡ pick pte 317 237
+unfolding pick
+receipt-length true = refl
+receipt-length false = refl
+
+pub least-length : (a : Answering) → 237 ≤ replyLength a
+unfolding replyLength
+least-length a = omega (arith, receipt-length (a .pte))
+
+module _ (a : Answering) (bank : length (a .bank) ≡ 25) (software : length (a .software) ≡ 16) (message : length (a .message) ≡ 161)
+    (closing : length (a .closing) ≡ 161) where
+  body-length : length (pick (a .bare) (bareBody a) (fullBody a)) ≡ 109
+  body-length = pick-length (a .bare) (bareBody a) (fullBody a) 109 (bare-length a bank) (full-length a message closing)
+
+  pub head-length : length (head a) ≡ 144
+  unfolding head
+  head-length =
+      length-append (opening a) (pick (a .bare) (bareBody a) (fullBody a)) ∙ omega (arith, opening-length a software, body-length)
+
+  pub reply-length : length (replyOf a) ≡ replyLength a
+  unfolding replyOf replyLength
+  reply-length =
+      simp length-append
+      (omega (arith, head-length, hex-or-length (checksumKey a (head a)), flag-length (enclosedKey a), hex-or-length (enclosedKey a), notice-length a, receipt-length (a .pte)))
+
+-- ---- what stands in the fields
+
+-- a part that stands between others
+between : (x v y l : List ℕ) (at n : ℕ) → l ≡ x ++ (v ++ y) → length x ≡ at → length v ≡ n → part at n l ≡ v
+unfolding part
+between x v y l at n e f g =
+    ap (λ (r : List ℕ). take n (drop at r)) e ∙ ap (take n) (drop-at x (v ++ y) at f) ∙ take-at v y n g
+
+-- what comes after the checksum
+abbrev rest : Answering → List ℕ
+rest a = sealedFlag (enclosedKey a) ++ (hexOr (enclosedKey a) ++ (noticeOf a ++ pick (a .pte) (replicate 80 blank) []))
+
+reply-split : (a : Answering) → replyOf a ≡ head a ++ (hexOr (checksumKey a (head a)) ++ rest a)
+unfolding replyOf
+reply-split a = simp append-assoc
+
+-- the opening's first three fields take eleven characters, and field 4 follows
+abbrev tag : Answering → List ℕ
+tag a = pick (a .pte) (letters ">>PTE317") (letters ">>ESI237") ++ letters "120"
+
+tag-length : (a : Answering) → length (tag a) ≡ 11
+unfolding letters
+tag-length a =
+    length-append (pick (a .pte) (letters ">>PTE317") (letters ">>ESI237")) (letters "120")
+    ∙ ap (λ (n : ℕ). n + 3) (pick-length (a .pte) (letters ">>PTE317") (letters ">>ESI237") 8 refl refl)
+
+-- K or E
+abbrev success : Answering → List ℕ
+success a = pick (codeIn (a .code) codes .accepted) (letters "K") (letters "E")
+
+success-length : (a : Answering) → length (success a) ≡ 1
+unfolding letters
+success-length a = pick-length (codeIn (a .code) codes .accepted) (letters "K") (letters "E") 1 refl refl
+
+opened : (a : Answering) → replyOf a ≡ tag a ++ (success a ++ (decimalDigits 4 (a .code) ++ (a .software ++ (letters "SMH"
+    ++ (pick (a .bare) (bareBody a) (fullBody a) ++ (hexOr (checksumKey a (head a)) ++ rest a))))))
+unfolding head opening
+opened a = reply-split a ∙ simp append-assoc
+
+pub success-is : (a : Answering) → part 11 1 (replyOf a) ≡ success a
+success-is a = between (tag a) (success a) _ (replyOf a) 11 1 (opened a) (tag-length a) (success-length a)
+
+only-k : (t : Bool) → pick t (letters "K") (letters "E") ≡ letters "K" → t ≡ true
+unfolding pick letters
+only-k true e = refl
+only-k false e = let z : _≡_ {A = ℕ} 69 75 = cc in absurd (omega arith)
+
+-- a reply says K exactly if its code is accepted
+pub reply-success : (a : Answering) → (part 11 1 (replyOf a) ≡ letters "K" → codeIn (a .code) codes .accepted ≡ true)
+    × (codeIn (a .code) codes .accepted ≡ true → part 11 1 (replyOf a) ≡ letters "K")
+reply-success a =
+    (λ e. only-k (codeIn (a .code) codes .accepted) (sym (success-is a) ∙ e), λ e. success-is a ∙ picks _ _ _ e)
+
+-- the message's fields that a full reply repeats, by their places
+sender-part : (m : List ℕ) → senderOf m ≡ part 60 25 m
+unfolding senderOf offsetIn pick
+sender-part m = refl
+
+stamp-part : (m : List ℕ) → stampTextOf m ≡ part 87 15 m
+unfolding stampTextOf offsetIn pick
+stamp-part m = refl
+
+before-stamp : (m : List ℕ) → senderOf m ++ receiverOf m ++ fieldText 100 m ++ fieldText 110 m
+    ≡ part 60 25 m ++ part 35 25 m ++ part 85 1 m ++ part 86 1 m
+unfolding senderOf receiverOf fieldText offsetIn widthIn pick
+before-stamp m = refl
+
+before-stamp-length : (m : List ℕ) → length m ≡ 161 → length (senderOf m ++ receiverOf m ++ fieldText 100 m ++ fieldText 110 m) ≡ 52
+before-stamp-length m h =
+    ap length (before-stamp m)
+    ∙ simp length-append
+    (omega (arith, part-length 60 25 m (omega arith), part-length 35 25 m (omega arith), part-length 85 1 m (omega arith), part-length 86 1 m (omega arith)))
+
+module _ (a : Answering) (full : a .bare ≡ false) where
+  -- what comes after the stamp
+  abbrev after-stamp : List ℕ
+  after-stamp =
+      fieldText 130 (a .message)
+      ++ (replicate 9 blank
+      ++ (fieldText 150 (a .message) ++ (fieldText 160 (a .closing) ++ (hexOr (checksumKey a (head a)) ++ rest a))))
+
+  full-head : head a ≡ opening a ++ fullBody a
+  unfolding head
+  full-head = ap (λ (x : List ℕ). opening a ++ x) (skips (a .bare) (bareBody a) (fullBody a) full)
+
+  full-split : replyOf a ≡ opening a ++ (senderOf (a .message) ++ (receiverOf (a .message) ++ (fieldText 100 (a .message)
+      ++ (fieldText 110 (a .message) ++ (stampTextOf (a .message) ++ after-stamp)))))
+  unfolding fullBody
+  full-split =
+      reply-split a ∙ ap (λ (x : List ℕ). x ++ (hexOr (checksumKey a (head a)) ++ rest a)) full-head ∙ simp append-assoc
+
+  module _ (software : length (a .software) ≡ 16) (message : length (a .message) ≡ 161) where
+    -- field 8 repeats the message's sender
+    pub reply-sender : part 35 25 (replyOf a) ≡ senderOf (a .message)
+    reply-sender =
+        between (opening a) (senderOf (a .message)) _ (replyOf a) 35 25 full-split (opening-length a software)
+        (ap length (sender-part (a .message)) ∙ part-length 60 25 (a .message) (omega arith))
+
+    -- field 12 repeats the message's stamp
+    pub reply-stamp : part 87 15 (replyOf a) ≡ stampTextOf (a .message)
+    reply-stamp =
+        let m = a .message in
+        let x : List ℕ = senderOf m ++ receiverOf m ++ fieldText 100 m ++ fieldText 110 m in
+        between (opening a ++ x) (stampTextOf m) after-stamp (replyOf a) 87 15 (full-split ∙ simp append-assoc)
+        (length-append (opening a) x ∙ omega (arith, opening-length a software, before-stamp-length m message))
+        (ap length (stamp-part m) ∙ part-length 87 15 m (omega arith))
+
+  module _ (bank : length (a .bank) ≡ 25) (software : length (a .software) ≡ 16) (message : length (a .message) ≡ 161)
+      (closing : length (a .closing) ≡ 161) (k : ℕ) (key : a .working ≡ Is k) where
+    summed-is : checksumKey a (head a) ≡ Is (checksumOf k (head a))
+    unfolding checksumKey summed
+    summed-is =
+        skips (a .bare) Missing (summed (a .working) (head a)) full ∙ ap (λ (w : Key). summed w (head a)) key
+
+    -- field 17 is the checksum, under the working key, of the characters before it
+    pub reply-sum : part 144 16 (replyOf a) ≡ hexDigits 16 (checksumOf k (take 144 (replyOf a)))
+    unfolding hexOr
+    reply-sum =
+        let n : length (head a) ≡ 144 = head-length a bank software message closing in
+        let h : take 144 (replyOf a) ≡ head a = ap (take 144) (reply-split a) ∙ take-at (head a) _ 144 n in
+        between (head a) (hexOr (checksumKey a (head a))) (rest a) (replyOf a) 144 16 (reply-split a) n (hex-or-length (checksumKey a (head a)))
+        ∙ ap hexOr summed-is
+        ∙ ap (λ (x : List ℕ). hexDigits 16 (checksumOf k x)) (sym h)
+
+-- ---- the room
+
+-- the bytes past the reply stay
+pub rest-stays : (a : Answering) → length (a .bank) ≡ 25 → length (a .software) ≡ 16 → length (a .message) ≡ 161
+    → length (a .closing) ≡ 161 → (room : List ℕ) → drop (replyLength a) (replied a room) ≡ drop (replyLength a) room
+unfolding replied overlay
+rest-stays a bank software message closing room =
+    picked (λ (x : List ℕ). drop (replyLength a) x ≡ drop (replyLength a) room) (leb (replyLength a) (length room)) _ _
+    (λ e. fits (leb-true _ _ e))
+    (λ e. refl)
+  where
+    n : length (replyOf a) ≡ replyLength a
+    n = reply-length a bank software message closing
+
+    fits : replyLength a ≤ length room → drop (replyLength a) (take (length room) (replyOf a) ++ drop (length (replyOf a)) room) ≡ drop (replyLength a) room
+    fits h =
+        ap (λ (x : List ℕ). drop (replyLength a) (x ++ drop (length (replyOf a)) room)) (take-all (length room) (replyOf a) (omega (arith, n)))
+        ∙ drop-at (replyOf a) (drop (length (replyOf a)) room) (replyLength a) n
+        ∙ ap (λ (k : ℕ). drop k room) n

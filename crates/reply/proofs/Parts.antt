@@ -1,0 +1,125 @@
+-- What is written part after part is the parts joined, since each part starts where the one before it ended.
+-- Assumes nothing.
+use mathlib.Core.Path.{_≡_, refl, sym, ap, _∙_}
+use mathlib.Core.List.{List, [], _++_, append-assoc, append-nil}
+use Prim.Native.Nat.{ℕ, _+_, _-_, _≤_}
+use native.Mathlib.Nat.{zero-add}
+use native.Mathlib.Omega.{arith}
+use borrow.Rule.Slice.PartMut.{putMid}
+use lib.ListN.{length, take, drop, length-append, length-take, length-drop, drop-of-length-le, replicate, length-replicate}
+use lib.Seq.{length-take-le, take-at, drop-drop, drop-append-add, take-all, paste-zero}
+use Rattle.ground.specs.Lists.{overlay}
+use Rattle.text.specs.Characters.{blank}
+use Rattle.reply.specs.Putting.{splice, Put}
+
+module _ (at : ℕ) (v l : List ℕ) (h : at + length v ≤ length l) where
+  front-length : length (take at l ++ v) ≡ at + length v
+  front-length = length-append (take at l) v ∙ ap (λ (k : ℕ). k + length v) (length-take-le at l (omega arith))
+
+  splice-length : length (splice at v l) ≡ length l
+  unfolding splice
+  splice-length = simp (length-append, length-take, length-drop) (omega arith)
+
+  splice-drop : (n : ℕ) → at + length v ≤ n → drop n (splice at v l) ≡ drop n l
+  unfolding splice
+  splice-drop n k =
+      let m : ℕ = n - (at + length v) in
+      let e : n ≡ (at + length v) + m = omega arith in
+      ap (λ (j : ℕ). drop j (splice at v l)) (e ∙ ap (λ (j : ℕ). j + m) (sym front-length))
+      ∙ drop-append-add (take at l ++ v) (drop (at + length v) l) m
+      ∙ drop-drop m (at + length v) l
+      ∙ ap (λ (j : ℕ). drop j l) (sym e)
+
+splice-splice : (at : ℕ) (v w l : List ℕ) (n : ℕ) → n ≡ at + length v → n + length w ≤ length l → splice n w (splice at v l) ≡ splice at (v ++ w) l
+unfolding splice
+splice-splice at v w l n e h =
+    let k : at + length v ≤ length l = omega arith in
+    let q : n + length w ≡ at + length (v ++ w) = omega (arith, length-append v w) in
+    ap (λ (r : List ℕ). r ++ w ++ drop (n + length w) (splice at v l))
+    (take-at (take at l ++ v) (drop (at + length v) l) n (front-length at v l k ∙ sym e))
+    ∙ ap (λ (r : List ℕ). take at l ++ v ++ w ++ r) (splice-drop at v l k (n + length w) (omega arith))
+    ∙ ap (λ (r : List ℕ). r ++ drop (n + length w) l) (append-assoc (take at l) v w)
+    ∙ ap (λ (j : ℕ). take at l ++ (v ++ w) ++ drop j l) q
+
+-- ---- one part, and a part after a part
+
+pub overlay-all : (v l : List ℕ) → length v ≡ length l → overlay v l ≡ v
+unfolding overlay
+overlay-all v l e =
+    ap (λ (x : List ℕ). take (length l) v ++ x) (drop-of-length-le l {i = length v} (omega arith))
+    ∙ append-nil (take (length l) v)
+    ∙ take-all (length l) v (omega arith)
+
+module _ (at k : ℕ) (room : List ℕ) (h : at + k ≤ length room) where
+  lent-length : length (take k (drop at room)) ≡ k
+  lent-length = length-take-le k (drop at room) (simp length-drop (omega arith))
+
+  -- a part that was lent came back as v
+  lent : (part v : List ℕ) (next : ℕ) → part ≡ v → length v ≡ k → next ≡ at + k → Put at v room (putMid at k room part) next
+  unfolding splice
+  lent part v next e f g =
+      record {
+        place = g ∙ ap (λ (n : ℕ). at + n) (sym f);
+        written =
+            ap (λ (x : List ℕ). putMid at k room x) e
+            ∙ rw (← f, drop-drop (length v) at room) (sym (append-assoc (take at room) v (drop (at + length v) room)));
+      }
+
+  pub lent-copy : (part v : List ℕ) (next : ℕ) → part ≡ overlay v (take k (drop at room)) → length v ≡ k → next ≡ at + k
+      → Put at v room (putMid at k room part) next
+  lent-copy part v next e f g = lent part v next (e ∙ overlay-all v (take k (drop at room)) (f ∙ sym lent-length)) f g
+
+  pub lent-fill : (part : List ℕ) (next n : ℕ) → part ≡ replicate (length (take k (drop at room))) blank → n ≡ k → next ≡ at + k
+      → Put at (replicate n blank) room (putMid at k room part) next
+  lent-fill part next n e f g =
+      lent part (replicate n blank) next
+      (e ∙ ap (λ (j : ℕ). replicate j blank) (lent-length ∙ sym f))
+      (length-replicate n blank ∙ f)
+      g
+
+pub nothing : (at : ℕ) (room : List ℕ) → Put at [] room room at
+unfolding splice
+nothing at room = record { place = omega arith; written = paste-zero room at [] }
+
+-- a run of parts: where it ends, and what it leaves if the room is long enough
+pub record Run (at : ℕ) (v room later : List ℕ) (next : ℕ) : Type 0 where
+  pub place : next ≡ at + length v
+  pub written : at + length v ≤ length room → later ≡ splice at v room
+
+pub begin : {at r : ℕ} {v a b : List ℕ} → Put at v a b r → Run at v a b r
+begin p = record { place = p .place; written = λ h. p .written }
+
+pub then : {at n r : ℕ} {v w a b c : List ℕ} → Run at v a b n → Put n w b c r → Run at (v ++ w) a c r
+then {at} {n} {r} {v} {w} {a} {b} {c} p q =
+    let e : length (v ++ w) ≡ length v + length w = length-append v w in
+    record {
+      place = omega (arith, p .place, q .place, e);
+      written = λ h.
+          q .written
+          ∙ ap (splice n w) (p .written (omega (arith, e)))
+          ∙ splice-splice at v w a n (p .place) (omega (arith, e, p .place));
+    }
+
+pub end : {at r : ℕ} {v a b : List ℕ} → Run at v a b r → at + length v ≤ length a → Put at v a b r
+end p h = record { place = p .place; written = p .written h }
+
+pub alike : {at r : ℕ} {v w a b : List ℕ} → v ≡ w → Put at v a b r → Put at w a b r
+alike {at} {r} {v} {w} {a} {b} e p =
+    record { place = p .place ∙ ap (λ (x : List ℕ). at + length x) e; written = p .written ∙ ap (λ (x : List ℕ). splice at x a) e }
+
+pub put-length : {at r : ℕ} {v a b : List ℕ} → at + length v ≤ length a → Put at v a b r → length b ≡ length a
+put-length {at} {r} {v} {a} h p = ap length (p .written) ∙ splice-length at v a h
+
+-- ---- written over the start
+
+module _ {r : ℕ} {v a b : List ℕ} (h : length v ≤ length a) (p : Put 0 v a b r) where
+  pub from-start : b ≡ v ++ drop (length v) a
+  unfolding splice
+  from-start = p .written ∙ rw zero-add
+
+  pub over : b ≡ overlay v a
+  unfolding overlay
+  over = from-start ∙ ap (λ (x : List ℕ). x ++ drop (length v) a) (sym (take-all (length a) v h))
+
+  pub first : take (length v) b ≡ v
+  first = ap (take (length v)) from-start ∙ take-at v (drop (length v) a) (length v) refl

@@ -1,0 +1,177 @@
+-- What acceptance keeps of a record, and that its numbers fit: each answer leaves the record as it was but for its working keys.
+-- Assumes nothing.
+use mathlib.Core.Path.{_≡_, refl}
+use mathlib.Core.Bool.{Bool, true, false}
+use mathlib.Core.List.{List, [], _∷_, _++_}
+use Prim.Native.Nat.{ℕ, zero, suc, _+_, _^_, _<_}
+use native.Mathlib.Omega.{arith}
+use borrow.Author.Tests.{lt-ltb, eq-eqb}
+use lib.ListN.{length, take, replicate}
+use Rattle.ground.specs.Choice.{pick}
+use Rattle.ground.specs.Lists.{all}
+use Rattle.ground.proofs.Choices.{left, right, join}
+use Rattle.keys.specs.declared.KeyMaker.{KeyMaker}
+use Rattle.keys.proofs.Laws.{made-lt, seed-lt}
+use Rattle.customer.specs.declared.Customer.{Customer}
+use Rattle.customer.specs.declared.KeyPair.{KeyPair}
+use Rattle.changeover.specs.Changes.{changed, withKeys, withWorking, withoutPrevious}
+use Rattle.changeover.specs.declared.Key.{Key}
+use Rattle.changeover.specs.declared.Key.the-variants.{Missing}
+use Rattle.acceptance.specs.Grants.{granted, underPrevious, newKey, underCurrent, grantedBy}
+use Rattle.acceptance.specs.Stamps.{liveOf, liveOnce, inPlaces, withStamp}
+use Rattle.acceptance.specs.declared.Granted.{Granted}
+use Rattle.acceptance.proofs.Purge.{stamps-length, once-length}
+use Rattle.table.specs.Table.{word, previousFits, pairFits, customerFits}
+
+chosen : (P : Granted → Type 0) (t : Bool) (a b : Granted) → P a → P b → P (pick t a b)
+unfolding pick
+chosen P true a b p q = p
+chosen P false a b p q = q
+
+-- what holds of the record as it was, without its previous working key, and with a new one, holds of what is granted
+module _ (c : Customer) (maker : KeyMaker) (clock today generation request : ℕ) where
+  module _ (P : Granted → Type 0)
+      (same : (code : ℕ) (key : Key) → P (granted code c key 0 (maker .seed)))
+      (dropped : P (granted 1036 (withoutPrevious c) Missing 0 (maker .seed)))
+      (renewed : P (newKey c maker clock today)) where
+    by-previous : P (underPrevious c maker request)
+    unfolding underPrevious
+    by-previous = chosen P _ _ _ (same 1002 _) (chosen P _ _ _ (same 1003 _) (same 1037 _))
+
+    by-current : P (underCurrent c maker clock today request)
+    unfolding underCurrent
+    by-current =
+        chosen P _ _ _ (same 1001 _)
+        (chosen P _ _ _ (chosen P _ _ _ (same 1004 _) (chosen P _ _ _ (same 1005 _) renewed))
+        (chosen P _ _ _ dropped (same 1037 _)))
+
+    by-answer : P (grantedBy c maker clock today generation request)
+    unfolding grantedBy
+    by-answer = chosen P _ _ _ by-current by-previous
+
+-- ---- what stays
+
+-- identity with qualifier, data types, agreement, leave, length of a changeover and transport keys
+pub record Kept (a b : Customer) : Type 0 where
+  pub who : b .who ≡ a .who
+  pub types : b .types ≡ a .types
+  pub agreed : b .agreed ≡ a .agreed
+  pub leave : b .leave ≡ a .leave
+  pub length : b .length ≡ a .length
+  pub transport : b .transport ≡ a .transport
+
+keys-kept : (c : Customer) (working : KeyPair) → Kept c (withKeys c (c .transport) working)
+unfolding withKeys
+keys-kept c working = record { who = refl; types = refl; agreed = refl; leave = refl; length = refl; transport = refl }
+
+pub grant-kept : (c : Customer) (maker : KeyMaker) (clock today generation request : ℕ)
+    → Kept c (grantedBy c maker clock today generation request .customer)
+unfolding withWorking withoutPrevious newKey
+grant-kept c maker clock today generation request =
+    by-answer c maker clock today generation request (λ (g : Granted). Kept c (g .customer))
+    (λ code key. record { who = refl; types = refl; agreed = refl; leave = refl; length = refl; transport = refl })
+    (keys-kept c _)
+    (keys-kept c _)
+
+pub stamp-keeps : (hs : List ℕ) (today : ℕ) (a c : Customer) (stamp once : ℕ) → Kept a c → Kept a (withStamp hs today c stamp once)
+unfolding withStamp
+stamp-keeps hs today a c stamp once k =
+    record {
+      who = k .who;
+      types = k .types;
+      agreed = k .agreed;
+      leave = k .leave;
+      length = k .length;
+      transport = k .transport;
+    }
+
+-- ---- numbers that fit
+
+word-true : (x : ℕ) → x < 2 ^ 64 → word x ≡ true
+word-true x h = lt-ltb x (2 ^ 64) h
+
+with-keys-fits : (c : Customer) (working : KeyPair) → customerFits c ≡ true → pairFits working ≡ true
+    → customerFits (withKeys c (c .transport) working) ≡ true
+unfolding customerFits withKeys
+with-keys-fits c working e p =
+    let e₁ = right _ _ e in
+    let e₂ = right _ _ e₁ in
+    let e₃ = right _ _ e₂ in
+    let e₄ = right _ _ e₃ in
+    join _ _ (left _ _ e)
+    (join _ _ (left _ _ e₁) (join _ _ (left _ _ e₂) (join _ _ (left _ _ e₃) (join _ _ (left _ _ e₄) p))))
+
+working-fits : (c : Customer) → customerFits c ≡ true → pairFits (c .working) ≡ true
+unfolding customerFits
+working-fits c e = right _ _ (right _ _ (right _ _ (right _ _ (right _ _ e))))
+
+pub grant-fits : (c : Customer) (maker : KeyMaker) (clock today generation request : ℕ) → customerFits c ≡ true
+    → customerFits (grantedBy c maker clock today generation request .customer) ≡ true
+unfolding withWorking withoutPrevious newKey changed previousFits
+grant-fits c maker clock today generation request f =
+    let k : word (c .working .key) ≡ true = left _ _ (working-fits c f) in
+    by-answer c maker clock today generation request (λ (g : Granted). customerFits (g .customer) ≡ true)
+    (λ code key. f)
+    (with-keys-fits c _ f (join _ _ k refl))
+    (with-keys-fits c _ f (join _ _ (word-true _ (made-lt (record { key = maker .key; seed = maker .seed }) clock)) k))
+
+pub grant-seed-lt : (c : Customer) (maker : KeyMaker) (clock today generation request : ℕ) → maker .seed < 2 ^ 64
+    → grantedBy c maker clock today generation request .seed < 2 ^ 64
+unfolding newKey
+grant-seed-lt c maker clock today generation request h =
+    by-answer c maker clock today generation request (λ (g : Granted). g .seed < 2 ^ 64)
+    (λ code key. h) h (seed-lt (record { key = maker .key; seed = maker .seed }) clock)
+
+-- ---- lists of such numbers
+
+module _ (f : ℕ → Bool) where
+  all-append : (a b : List ℕ) → all f a ≡ true → all f b ≡ true → all f (a ++ b) ≡ true
+  unfolding all
+  all-append [] b p q = q
+  all-append (x ∷ a) b p q = join _ _ (left _ _ p) (all-append a b (right _ _ p) q)
+
+  all-take : (n : ℕ) (l : List ℕ) → all f l ≡ true → all f (take n l) ≡ true
+  unfolding all
+  all-take zero l p = refl
+  all-take (suc n) [] p = refl
+  all-take (suc n) (x ∷ l) p = join _ _ (left _ _ p) (all-take n l (right _ _ p))
+
+  all-zeros : (n : ℕ) → f 0 ≡ true → all f (replicate n 0) ≡ true
+  unfolding all
+  all-zeros zero p = refl
+  all-zeros (suc n) p = join _ _ p (all-zeros n p)
+
+  all-pick : (b : Bool) (x : ℕ) (l : List ℕ) → f x ≡ true → all f l ≡ true → all f (pick b l (x ∷ l)) ≡ true
+  unfolding all pick
+  all-pick true x l p q = q
+  all-pick false x l p q = join _ _ p q
+
+  all-live : (hs : List ℕ) (today : ℕ) (ss xs : List ℕ) → all f xs ≡ true → all f (liveOf hs today ss xs) ≡ true
+  unfolding all liveOf
+  all-live hs today [] xs p = refl
+  all-live hs today (s ∷ ss) [] p = refl
+  all-live hs today (s ∷ ss) (x ∷ xs) p = all-pick _ x _ (left _ _ p) (all-live hs today ss xs (right _ _ p))
+
+once-fits : (hs : List ℕ) (today : ℕ) (c : Customer) (once : ℕ) → all word (c .once) ≡ true → once < 2 ^ 64
+    → all word (inPlaces (liveOnce hs today c ++ (once ∷ []))) ≡ true
+unfolding all
+once-fits hs today c once p h =
+    let l = liveOnce hs today c in
+    all-take word 64 ((l ++ (once ∷ [])) ++ replicate 64 0)
+    (all-append word (l ++ (once ∷ [])) (replicate 64 0)
+    (all-append word l (once ∷ [])
+    (all-live word hs today (take (c .count) (c .stamps)) (take (c .count) (c .once)) (all-take word (c .count) (c .once) p))
+    (join (word once) true (word-true once h) refl))
+    (all-zeros word 64 (word-true 0 (omega arith))))
+
+pub stamp-fits : (hs : List ℕ) (today : ℕ) (c : Customer) (stamp once : ℕ) → customerFits c ≡ true → once < 2 ^ 64
+    → customerFits (withStamp hs today c stamp once) ≡ true
+unfolding customerFits withStamp
+stamp-fits hs today c stamp once e h =
+    let e₁ = right _ _ e in
+    let e₂ = right _ _ e₁ in
+    let e₃ = right _ _ e₂ in
+    join _ _ (left _ _ e)
+    (join _ _ (eq-eqb _ 64 (stamps-length hs today c stamp once))
+    (join _ _ (eq-eqb _ 64 (once-length hs today c stamp once))
+    (join _ _ (once-fits hs today c once (left _ _ e₃) h) (right _ _ e₃))))

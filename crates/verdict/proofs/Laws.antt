@@ -1,0 +1,330 @@
+-- What a verdict means: with E nothing changes; with K the sender's record holds the new stamp, and all that it must keep stays.
+-- Assumes nothing.
+use mathlib.Core.Path.{_≡_, refl, sym, ap, ap₂, _∙_, subst}
+use mathlib.Core.Bool.{true, false}
+use mathlib.Core.List.{List, [], _∷_, _++_}
+use mathlib.Core.Logic.{_⊎_, ⊎-elim}
+use Prim.Native.Nat.{ℕ, _+_, _≤_, _<_}
+use native.Mathlib.Omega.{arith}
+use borrow.Author.Tests.{leb-false, lt-ltb}
+use lib.ListN.{length, take}
+use Rattle.ground.specs.Choice.{pick}
+use Rattle.ground.specs.Lists.{member}
+use Rattle.ground.proofs.Choices.{join}
+use Rattle.customer.specs.Customer.{realStamp}
+use Rattle.customer.specs.declared.Customer.{Customer}
+use Rattle.acceptance.specs.Stamps.{holdsStamp, stampOld, heldStamps, liveOf, liveStamps, withStamp}
+use Rattle.acceptance.proofs.Grants.{grant-who, grant-stamps}
+use Rattle.acceptance.proofs.Purge.{stamp-new, stamp-kept}
+use Rattle.table.specs.Table.{Table, placeOf, isUnknown, customerIn, withCustomer, withSeed}
+use Rattle.table.specs.Named.{customerAt, replacedAt, named, withNamed}
+use Rattle.table.specs.Decode.{tableOf}
+use Rattle.table.specs.declared.Found.{Found}
+use Rattle.table.specs.declared.Found.the-variants.{At, Unknown}
+use Rattle.table.proofs.Places.{others-stay, stored-is, same-place, found-is}
+use Rattle.message.specs.Rules.{faultOf}
+use Rattle.message.specs.Fields.{senderOf, stampOf}
+use Rattle.message.specs.declared.Kind.{Kind}
+use Rattle.message.specs.declared.Kind.the-variants.{Esi, Suo, Var}
+use Rattle.message.specs.declared.Fault.{Fault}
+use Rattle.message.specs.declared.Fault.the-variants.{Sound, Found as FaultFound}
+use Rattle.message.proofs.Laws.{fault-code, sound-stamp}
+use Rattle.verdict.specs.Checks.{checkField, firstFailing, faultIs, faultField, formChecks, partyChecks, stampChecks, roomChecks, pairChecks, keyChecks, esiChecks, frameChecks, keyOr0}
+use Rattle.verdict.specs.Outcomes.{grantTo, recordAfter, tableAfter, tableBy, bytesBy, esiTable, frameTable, esiLeaves, frameLeaves}
+use Rattle.verdict.specs.declared.Collected.{Collected}
+use Rattle.verdict.specs.declared.Frame.{Frame}
+use Rattle.verdict.specs.declared.Occasion.{Occasion}
+use Rattle.verdict.proofs.Keeps.{Kept, grant-kept, stamp-keeps}
+use Rattle.verdict.proofs.Parts.{esiKeys, typeChecks, esiParts, frameParts, esi-parts, frame-parts}
+use Rattle.verdict.proofs.Order.{NoneFails, accepted, none-fails, none-left, none-right}
+
+-- ---- the form
+
+coded : (f : Fault) → ((c n : ℕ) → f ≡ FaultFound c n → (c ≡ 1010) ⊎ (c ≡ 1011) ⊎ (c ≡ 1032))
+    → f ≡ firstFailing (checkField 1032 (faultField f) (faultIs 1032 f) ∷ checkField 1010 (faultField f) (faultIs 1010 f) ∷ checkField 1011 (faultField f) (faultIs 1011 f) ∷ [])
+unfolding firstFailing faultField faultIs pick
+coded Sound h = refl
+coded (FaultFound c n) h = ⊎-elim (λ e. rw e) (⊎-elim (λ e. rw e) (λ e. rw e)) (h c n refl)
+
+-- the first failing check of form is the first fault of form
+pub form-is : (k : Kind) (m : Collected) → faultOf k (m .alone) (m .blank) (m .text) ≡ firstFailing (formChecks k m)
+unfolding formChecks
+form-is k m = coded (faultOf k (m .alone) (m .blank) (m .text)) (λ c n e. fault-code k _ _ _ c n e)
+
+-- ---- with E nothing changes
+
+by-found : (f : Fault) (c n : ℕ) (before after : Table) → f ≡ FaultFound c n → tableBy f before after ≡ before
+unfolding tableBy
+by-found f c n before after e = ap (λ (x : Fault). tableBy x before after) e
+
+bytes-found : (f : Fault) (c n : ℕ) (before after : List ℕ) → f ≡ FaultFound c n → bytesBy f before after ≡ before
+unfolding bytesBy
+bytes-found f c n before after e = ap (λ (x : Fault). bytesBy x before after) e
+
+pub esi-e-changes-nothing : (t : Table) (o : Occasion) (m : Collected) (c n : ℕ)
+    → firstFailing (esiChecks t (o .today .yymmdd) m) ≡ FaultFound c n → esiTable t o m ≡ t
+unfolding esiTable
+esi-e-changes-nothing t o m c n e = by-found _ c n _ _ e
+
+pub frame-e-changes-nothing : (t : Table) (o : Occasion) (f : Frame) (c n : ℕ)
+    → firstFailing (frameChecks t (o .today .yymmdd) (o .kind) f) ≡ FaultFound c n → frameTable t o f ≡ t
+unfolding frameTable
+frame-e-changes-nothing t o f c n e = by-found _ c n _ _ e
+
+pub esi-e-leaves : (b : List ℕ) (o : Occasion) (m : Collected) (c n : ℕ)
+    → firstFailing (esiChecks (tableOf b) (o .today .yymmdd) m) ≡ FaultFound c n → esiLeaves b o m ≡ b
+unfolding esiLeaves
+esi-e-leaves b o m c n e = bytes-found _ c n _ _ e
+
+pub frame-e-leaves : (b : List ℕ) (o : Occasion) (f : Frame) (c n : ℕ)
+    → firstFailing (frameChecks (tableOf b) (o .today .yymmdd) (o .kind) f) ≡ FaultFound c n → frameLeaves b o f ≡ b
+unfolding frameLeaves
+frame-e-leaves b o f c n e = bytes-found _ c n _ _ e
+
+-- ---- the customer who is named
+
+pub named-at : (t : Table) (who : List ℕ) (i : ℕ) → placeOf t who ≡ At i → named t who ≡ customerIn t i
+unfolding named customerAt
+named-at t who i e = ap (customerAt t) e
+
+pub with-named : (t : Table) (who : List ℕ) (i : ℕ) (c : Customer) → placeOf t who ≡ At i → withNamed t who c ≡ withCustomer t i c
+unfolding withNamed replacedAt
+with-named t who i c e = ap (λ (f : Found). replacedAt t f c) e
+
+seed-at : (t : Table) (v : ℕ) (f : Found) → customerAt (withSeed t v) f ≡ customerAt t f
+unfolding customerAt customerIn withSeed
+seed-at t v (At i) = refl
+seed-at t v Unknown = refl
+
+seed-named : (t : Table) (v : ℕ) (who : List ℕ) → named (withSeed t v) who ≡ named t who
+unfolding named placeOf withSeed
+seed-named t v who = seed-at t v (placeOf t who)
+
+seed-in : (t : Table) (v j : ℕ) → customerIn (withSeed t v) j ≡ customerIn t j
+unfolding customerIn withSeed
+seed-in t v j = refl
+
+replaced-others : (t : Table) (f : Found) (c : Customer) (j : ℕ) → (f ≡ At j → ⊥) → customerIn (replacedAt t f c) j ≡ customerIn t j
+unfolding replacedAt
+replaced-others t (At i) c j n = others-stay t i j c (λ q. n (ap At q))
+replaced-others t Unknown c j n = refl
+
+named-others : (t : Table) (who : List ℕ) (c : Customer) (j : ℕ) → (placeOf t who ≡ At j → ⊥) → customerIn (withNamed t who c) j ≡ customerIn t j
+unfolding withNamed
+named-others t who c j n = replaced-others t (placeOf t who) c j n
+
+-- another record with the same name, and another seed
+module _ (t : Table) (who : List ℕ) (i : ℕ) (e : placeOf t who ≡ At i) (c : Customer) (w : c .who ≡ named t who .who) (v : ℕ) where
+  pub who-is : c .who ≡ customerIn t i .who
+  who-is = w ∙ ap (λ (d : Customer). d .who) (named-at t who i e)
+
+  pub named-after : named (withSeed (withNamed t who c) v) who ≡ c
+  named-after =
+      seed-named (withNamed t who c) v who
+      ∙ ap (λ (u : Table). named u who) (with-named t who i c e)
+      ∙ named-at (withCustomer t i c) who i (same-place t i c who who-is ∙ e)
+      ∙ stored-is t i c (found-is t who i e .0)
+
+-- ---- what an accepted message is known by
+
+-- the sender is in the table, there is room for a stamp, and the stamp is real
+pub record Accepted (t : Table) (today : ℕ) (m : List ℕ) : Type 0 where
+  pub place : ℕ
+  pub known : placeOf t (senderOf m) ≡ At place
+  pub room : length (liveStamps (t .holidays) today (named t (senderOf m))) < 64
+  pub real : length m ≡ 161 → realStamp (stampOf m) ≡ true
+
+known-at : (f : Found) → isUnknown f ≡ false → (i : ℕ) × (f ≡ At i)
+unfolding isUnknown
+known-at (At i) e = (i, refl)
+known-at Unknown e = absurd (let z : _≡_ {A = ℕ} 0 1 = cc in omega arith)
+
+party-known : (t : Table) (m : List ℕ) → NoneFails (partyChecks t m) → (i : ℕ) × (placeOf t (senderOf m) ≡ At i)
+unfolding partyChecks
+party-known t m n = known-at (placeOf t (senderOf m)) (n .1 .1 .0)
+
+room-left : (t : Table) (c : Customer) (today : ℕ) → NoneFails (roomChecks t c today) → length (liveStamps (t .holidays) today c) < 64
+unfolding roomChecks
+room-left t c today n = leb-false 64 _ (n .0)
+
+form-sound : (k : Kind) (m : Collected) → NoneFails (formChecks k m) → faultOf k (m .alone) (m .blank) (m .text) ≡ Sound
+form-sound k m n = form-is k m ∙ none-fails (formChecks k m) n
+
+form-real : (k : Kind) (m : Collected) → NoneFails (formChecks k m) → length (m .text) ≡ 161 → realStamp (stampOf (m .text)) ≡ true
+unfolding realStamp
+form-real k m n l =
+    let s = sound-stamp k (m .alone) (m .blank) (m .text) (form-sound k m n) l in
+    join _ _ (lt-ltb (stampOf (m .text)) 1000000000000000 (s .0)) (join _ _ (s .1) (s .2))
+
+given : (k : Kind) (t : Table) (today : ℕ) (m : Collected) → NoneFails (formChecks k m) → NoneFails (partyChecks t (m .text))
+    → NoneFails (roomChecks t (named t (senderOf (m .text))) today) → Accepted t today (m .text)
+given k t today m f p r =
+    let i = party-known t (m .text) p in
+    record { place = i .0; known = i .1; room = room-left t _ today r; real = form-real k m f }
+
+pub esi-accepted : (t : Table) (today : ℕ) (m : Collected) → firstFailing (esiChecks t today m) ≡ Sound → Accepted t today (m .text)
+esi-accepted t today m e =
+    let c = named t (senderOf (m .text)) in
+    let l₃ = esiKeys c (m .text) ++ roomChecks t c today in
+    let l₂ = stampChecks t c today (m .text) ++ l₃ in
+    let l₁ = partyChecks t (m .text) ++ l₂ in
+    let n = accepted (esiParts t c today m) (ap firstFailing (sym (esi-parts t today m)) ∙ e) in
+    let p = none-right (formChecks Esi m) l₁ n in
+    let s = none-right (partyChecks t (m .text)) l₂ p in
+    let k = none-right (stampChecks t c today (m .text)) l₃ s in
+    given Esi t today m (none-left (formChecks Esi m) l₁ n) (none-left (partyChecks t (m .text)) l₂ p)
+    (none-right (esiKeys c (m .text)) (roomChecks t c today) k)
+
+-- and of a frame also that its one-time key has passed
+pub frame-passed : (t : Table) (today kind : ℕ) (f : Frame) → firstFailing (frameChecks t today kind f) ≡ Sound
+    → Accepted t today (f .suo .text) × NoneFails (keyChecks t (named t (senderOf (f .suo .text))) today f)
+frame-passed t today kind f e =
+    let c = named t (senderOf (f .suo .text)) in
+    let l₆ = keyChecks t c today f ++ roomChecks t c today in
+    let l₅ = stampChecks t c today (f .suo .text) ++ l₆ in
+    let l₄ = pairChecks (f .suo .text) (f .var .text) ++ l₅ in
+    let l₃ = typeChecks c kind ++ l₄ in
+    let l₂ = partyChecks t (f .suo .text) ++ l₃ in
+    let l₁ = formChecks Var (f .var) ++ l₂ in
+    let n = accepted (frameParts t c today kind f) (ap firstFailing (sym (frame-parts t today kind f)) ∙ e) in
+    let p = none-right (formChecks Var (f .var)) l₂ (none-right (formChecks Suo (f .suo)) l₁ n) in
+    let b = none-right (typeChecks c kind) l₄ (none-right (partyChecks t (f .suo .text)) l₃ p) in
+    let s = none-right (pairChecks (f .suo .text) (f .var .text)) l₅ b in
+    let k = none-right (stampChecks t c today (f .suo .text)) l₆ s in (
+      given Suo t today (f .suo) (none-left (formChecks Suo (f .suo)) l₁ n) (none-left (partyChecks t (f .suo .text)) l₃ p)
+          (none-right (keyChecks t c today f) (roomChecks t c today) k),
+      none-left (keyChecks t c today f) (roomChecks t c today) k,
+    )
+
+pub frame-accepted : (t : Table) (today kind : ℕ) (f : Frame) → firstFailing (frameChecks t today kind f) ≡ Sound → Accepted t today (f .suo .text)
+frame-accepted t today kind f e = frame-passed t today kind f e .0
+
+-- ---- what acceptance leaves
+
+module _ (t : Table) (o : Occasion) (m closing : List ℕ) (once : ℕ) where
+  granted-who : grantTo t o m closing .customer .who ≡ named t (senderOf m) .who
+  unfolding grantTo
+  granted-who = grant-who _ _ _ _ _ _
+
+  pub record-who : recordAfter t o m closing once .who ≡ named t (senderOf m) .who
+  unfolding recordAfter withStamp
+  record-who = granted-who
+
+  pub granted-stamps : (grantTo t o m closing .customer .count ≡ named t (senderOf m) .count)
+      × (grantTo t o m closing .customer .stamps ≡ named t (senderOf m) .stamps)
+      × (grantTo t o m closing .customer .once ≡ named t (senderOf m) .once)
+  unfolding grantTo
+  granted-stamps = grant-stamps _ _ _ _ _ _
+
+  held-same : heldStamps (grantTo t o m closing .customer) ≡ heldStamps (named t (senderOf m))
+  held-same = ap₂ (λ (n : ℕ) (l : List ℕ). take n l) (granted-stamps .0) (granted-stamps .1)
+
+  module _ (a : Accepted t (o .today .yymmdd) m) where
+    pub room-after : length (liveStamps (t .holidays) (o .today .yymmdd) (grantTo t o m closing .customer)) < 64
+    room-after =
+        omega (arith, ap (λ (l : List ℕ). length (liveOf (t .holidays) (o .today .yymmdd) l l)) held-same, a .room)
+
+    pub after-is : named (tableAfter t o m closing once) (senderOf m) ≡ recordAfter t o m closing once
+    unfolding tableAfter
+    after-is =
+        named-after t (senderOf m) (a .place) (a .known) (recordAfter t o m closing once) record-who (grantTo t o m closing .seed)
+
+    after-holds : holdsStamp (named (tableAfter t o m closing once) (senderOf m)) (stampOf m) ≡ true
+    unfolding holdsStamp recordAfter
+    after-holds =
+        ap (λ (c : Customer). holdsStamp c (stampOf m)) after-is
+        ∙ stamp-new (t .holidays) (o .today .yymmdd) (grantTo t o m closing .customer) (stampOf m) once room-after
+
+    after-kept : (s : ℕ) → holdsStamp (named t (senderOf m)) s ≡ true → stampOld (t .holidays) (o .today .yymmdd) s ≡ false
+        → holdsStamp (named (tableAfter t o m closing once) (senderOf m)) s ≡ true
+    unfolding holdsStamp recordAfter
+    after-kept s h q =
+        ap (λ (c : Customer). holdsStamp c s) after-is
+        ∙ stamp-kept (t .holidays) (o .today .yymmdd) (grantTo t o m closing .customer) (stampOf m) once s
+        (ap (member s) held-same ∙ h) q room-after
+
+    after-few : named (tableAfter t o m closing once) (senderOf m) .count ≤ 64
+    unfolding recordAfter withStamp
+    after-few = omega (arith, ap (λ (c : Customer). c .count) after-is, room-after)
+
+    after-keeps : Kept (named t (senderOf m)) (named (tableAfter t o m closing once) (senderOf m))
+    unfolding recordAfter grantTo
+    after-keeps =
+        subst (λ (c : Customer). Kept (named t (senderOf m)) c) (sym after-is)
+        (stamp-keeps (t .holidays) (o .today .yymmdd) _ _ (stampOf m) once (grant-kept _ _ _ _ _ _))
+
+  after-others : (j : ℕ) → (placeOf t (senderOf m) ≡ At j → ⊥) → customerIn (tableAfter t o m closing once) j ≡ customerIn t j
+  unfolding tableAfter
+  after-others j n = seed-in _ _ j ∙ named-others t (senderOf m) _ j n
+
+-- the table u after a message was accepted on the table t: its stamp is held, none that is not too old is lost, there are never
+-- more than 64, and the sender's record keeps all but its working keys
+pub record Marked (t u : Table) (today : ℕ) (m : List ℕ) : Type 0 where
+  pub new : holdsStamp (named u (senderOf m)) (stampOf m) ≡ true
+  pub kept : (s : ℕ) → holdsStamp (named t (senderOf m)) s ≡ true → stampOld (t .holidays) today s ≡ false → holdsStamp (named u (senderOf m)) s ≡ true
+  pub few : named u (senderOf m) .count ≤ 64
+  pub keeps : Kept (named t (senderOf m)) (named u (senderOf m))
+
+after-marked : (t u : Table) (o : Occasion) (m closing : List ℕ) (once : ℕ) → Accepted t (o .today .yymmdd) m
+    → u ≡ tableAfter t o m closing once → Marked t u (o .today .yymmdd) m
+after-marked t u o m closing once a e =
+    subst (λ (x : Table). Marked t x (o .today .yymmdd) m) (sym e)
+    (record {
+      new = after-holds t o m closing once a;
+      kept = after-kept t o m closing once a;
+      few = after-few t o m closing once a;
+      keeps = after-keeps t o m closing once a;
+    })
+
+by-sound : (f : Fault) (before after : Table) → f ≡ Sound → tableBy f before after ≡ after
+unfolding tableBy
+by-sound f before after e = ap (λ (x : Fault). tableBy x before after) e
+
+pub esi-is : (t : Table) (o : Occasion) (m : Collected) → firstFailing (esiChecks t (o .today .yymmdd) m) ≡ Sound
+    → esiTable t o m ≡ tableAfter t o (m .text) (m .text) 0
+unfolding esiTable
+esi-is t o m e = by-sound _ _ _ e
+
+pub frame-is : (t : Table) (o : Occasion) (f : Frame) → firstFailing (frameChecks t (o .today .yymmdd) (o .kind) f) ≡ Sound
+    → frameTable t o f ≡ tableAfter t o (f .suo .text) (f .var .text) (keyOr0 (f .once))
+unfolding frameTable
+frame-is t o f e = by-sound _ _ _ e
+
+-- after an accepted ESI the sender's record is marked by its stamp
+pub esi-marked : (t : Table) (o : Occasion) (m : Collected) → firstFailing (esiChecks t (o .today .yymmdd) m) ≡ Sound
+    → Marked t (esiTable t o m) (o .today .yymmdd) (m .text)
+esi-marked t o m e =
+    after-marked t (esiTable t o m) o (m .text) (m .text) 0 (esi-accepted t (o .today .yymmdd) m e) (esi-is t o m e)
+
+-- and after an accepted frame
+pub frame-marked : (t : Table) (o : Occasion) (f : Frame) → firstFailing (frameChecks t (o .today .yymmdd) (o .kind) f) ≡ Sound
+    → Marked t (frameTable t o f) (o .today .yymmdd) (f .suo .text)
+frame-marked t o f e =
+    after-marked t (frameTable t o f) o (f .suo .text) (f .var .text) (keyOr0 (f .once))
+    (frame-accepted t (o .today .yymmdd) (o .kind) f e) (frame-is t o f e)
+
+-- after acceptance the record holds the new stamp
+pub esi-stamp : (t : Table) (o : Occasion) (m : Collected) → firstFailing (esiChecks t (o .today .yymmdd) m) ≡ Sound
+    → holdsStamp (named (esiTable t o m) (senderOf (m .text))) (stampOf (m .text)) ≡ true
+esi-stamp t o m e = esi-marked t o m e .new
+
+pub frame-stamp : (t : Table) (o : Occasion) (f : Frame) → firstFailing (frameChecks t (o .today .yymmdd) (o .kind) f) ≡ Sound
+    → holdsStamp (named (frameTable t o f) (senderOf (f .suo .text))) (stampOf (f .suo .text)) ≡ true
+frame-stamp t o f e = frame-marked t o f e .new
+
+-- ---- every other customer is as before, whatever the verdict
+
+by-others : (f : Fault) (t u : Table) (j : ℕ) → customerIn u j ≡ customerIn t j → customerIn (tableBy f t u) j ≡ customerIn t j
+unfolding tableBy
+by-others Sound t u j e = e
+by-others (FaultFound c n) t u j e = refl
+
+pub esi-others : (t : Table) (o : Occasion) (m : Collected) (j : ℕ) → (placeOf t (senderOf (m .text)) ≡ At j → ⊥)
+    → customerIn (esiTable t o m) j ≡ customerIn t j
+unfolding esiTable
+esi-others t o m j n = by-others _ t _ j (after-others t o (m .text) (m .text) 0 j n)
+
+pub frame-others : (t : Table) (o : Occasion) (f : Frame) (j : ℕ) → (placeOf t (senderOf (f .suo .text)) ≡ At j → ⊥)
+    → customerIn (frameTable t o f) j ≡ customerIn t j
+unfolding frameTable
+frame-others t o f j n = by-others _ t _ j (after-others t o (f .suo .text) (f .var .text) (keyOr0 (f .once)) j n)

@@ -1,0 +1,45 @@
+-- The dates that are lent are the table's holidays.
+use mathlib.Core.Path.{sym, ap₂, _∙_}
+use Prim.Native.Nat.{ℕ}
+use mathlib.Core.List.{List}
+use Rattle.acceptance.specs.Stamps.{withStamp}
+use Rattle.verdict.proofs.Tables.{lent-room, lent-count, lent-dates}
+use borrow.Author.Needs.{needs}
+use Rattle.verdict.proofs.marked.Statement.{statement}
+use Rattle.verdict.proofs.marked.Tie as tie
+
+holidays-in-requires : tie.Need-holidays-in-requires
+holidays-in-requires c κs = search needs
+
+cast-n : tie.Need-cast-n
+cast-n c = search needs
+
+array-share-prefix-dates : tie.Need-array-share-prefix-dates
+array-share-prefix-dates c = lent-room _ _ (c .before .before .holidays-in .ensures)
+
+slice-aggregate-with-stamp : tie.Need-slice-aggregate-with-stamp
+slice-aggregate-with-stamp c = lent-count _ _ (c .before .before .before .holidays-in .ensures)
+
+stamp-requires : tie.Need-stamp-requires
+stamp-requires c κs = search needs
+
+with-stamp-requires : tie.Need-with-stamp-requires
+with-stamp-requires c κs = search needs
+
+returns : tie.Need-returns
+returns c =
+    let a = c .before .before .before .before .before .before .before .args in
+    c .with-stamp .ensures
+    ∙ ap₂ (λ (h : List ℕ) (s : ℕ). withStamp h (a .today .yymmdd) (a .c) s (a .once)) (sym (lent-dates _ _ (c .before .before .before .before .before .holidays-in .ensures))) (c .before .stamp .ensures)
+
+pub marked-spec : {M : Type 1} → statement M
+marked-spec =
+    tie.close
+    (tie.spec
+    holidays-in-requires
+    cast-n
+    array-share-prefix-dates
+    slice-aggregate-with-stamp
+    stamp-requires
+    with-stamp-requires
+    returns)

@@ -1,0 +1,35 @@
+-- A place has its record stored, and without one nothing is.
+use mathlib.Core.Path.{sym, ap, _∙_}
+use Rattle.table.specs.declared.Found.{Found}
+use Rattle.verdict.specs.Outcomes.{storedAt}
+use borrow.Author.Needs.{needs}
+use Rattle.verdict.proofs.store_record.Statement.{statement}
+use Rattle.verdict.proofs.store_record.Tie as tie
+
+enum-known-place : tie.Need-enum-known-place
+enum-known-place c = search needs
+
+store-requires : tie.Need-store-requires
+store-requires c κs = search needs
+
+enum-told : tie.Need-enum-told
+enum-told c = search needs
+
+same-length : tie.Need-same-length
+same-length c = search needs
+
+returns : tie.Need-returns
+unfolding storedAt
+returns c =
+    let a = c .before .before .before .before .before .before .before .before .args in
+    c .before .before .store .ensures ∙ sym (ap (λ (f : Found). storedAt (a .t .now) f (a .c)) (c .before .before .before .before .before .place .given .1))
+
+returns-2 : tie.Need-returns-2
+unfolding storedAt
+returns-2 c =
+    let a = c .before .before .before .args in
+    sym (ap (λ (f : Found). storedAt (a .t .now) f (a .c)) (c .enum-told .given .1))
+
+pub store-record-spec : {M : Type 1} → statement M
+store-record-spec =
+    tie.close (tie.spec enum-known-place store-requires enum-told same-length returns returns-2)

@@ -1,0 +1,3 @@
+-- What the contracts of `verdict` cite.
+pub mod Checks
+pub mod Outcomes

@@ -1,0 +1,97 @@
+-- What a verdict answers and leaves: with E nothing changes; with K the stamp is marked used, and keys go as the request says.
+-- Assumes nothing.
+use Prim.Native.Nat.{ℕ, _+_, _%_, _^_}
+use mathlib.Core.List.{List}
+use Rattle.keys.specs.Maker.{clockValue}
+use Rattle.customer.specs.declared.Customer.{Customer}
+use Rattle.changeover.specs.declared.Key.{Key}
+use Rattle.changeover.specs.declared.Key.the-variants.{Missing}
+use Rattle.acceptance.specs.Stamps.{withStamp}
+use Rattle.acceptance.specs.Grants.{grantedBy}
+use Rattle.acceptance.specs.declared.Granted.{Granted}
+use Rattle.table.specs.Table.{Table, placeOf, withSeed}
+use Rattle.table.specs.Named.{named, withNamed}
+use Rattle.table.specs.Decode.{tableOf}
+use Rattle.table.specs.Stored.{customerStored, seedStored}
+use Rattle.table.specs.declared.Found.{Found}
+use Rattle.table.specs.declared.Found.the-variants.{At, Unknown}
+use Rattle.message.specs.Fields.{senderOf, stampOf, workingGenerationOf, requestOf}
+use Rattle.message.specs.declared.Fault.{Fault}
+use Rattle.message.specs.declared.Fault.the-variants.{Sound, Found as FaultFound}
+use Rattle.verdict.specs.Checks.{firstFailing, esiChecks, frameChecks, keyOr0}
+use Rattle.verdict.specs.declared.Collected.{Collected}
+use Rattle.verdict.specs.declared.Frame.{Frame}
+use Rattle.verdict.specs.declared.Occasion.{Occasion}
+use Rattle.verdict.specs.declared.Outcome.{Outcome}
+
+-- ---- acceptance
+
+-- what is granted to the sender of a message: `m` names sender, stamp and generations, `closing` the request (they differ in a frame)
+unfoldable pub grantTo : Table → Occasion → List ℕ → List ℕ → Granted
+grantTo t o m closing =
+    grantedBy (named t (senderOf m)) (t .settings .maker) (clockValue (o .clock) (o .made)) (o .today .yymmdd)
+    (workingGenerationOf m)
+    (requestOf closing)
+
+-- the record afterwards: the stamp is marked used, with the one-time key of a batch
+unfoldable pub recordAfter : Table → Occasion → List ℕ → List ℕ → ℕ → Customer
+recordAfter t o m closing once =
+    withStamp (t .holidays) (o .today .yymmdd) (grantTo t o m closing .customer) (stampOf m) once
+
+-- the table afterwards: that record, and the key maker moved on
+unfoldable pub tableAfter : Table → Occasion → List ℕ → List ℕ → ℕ → Table
+tableAfter t o m closing once =
+    withSeed (withNamed t (senderOf m) (recordAfter t o m closing once)) (grantTo t o m closing .seed)
+
+-- ---- the answer; the count of keys is carried round as the clock value is
+
+unfoldable pub outcomeOf : Fault → Granted → ℕ → Outcome
+outcomeOf Sound g made = record { code = g .code; field = 0; enclosed = g .enclosed; made = (made + g .made) % 2 ^ 64 }
+outcomeOf (FaultFound code field) g made = record { code = code; field = field; enclosed = Missing; made = made }
+
+-- with E the table stays as it was
+unfoldable pub tableBy : Fault → Table → Table → Table
+tableBy Sound before after = after
+tableBy (FaultFound code field) before after = before
+
+-- an ESI
+unfoldable pub esiOutcome : Table → Occasion → Collected → Outcome
+esiOutcome t o m =
+    outcomeOf (firstFailing (esiChecks t (o .today .yymmdd) m)) (grantTo t o (m .text) (m .text)) (o .made)
+
+unfoldable pub esiTable : Table → Occasion → Collected → Table
+esiTable t o m =
+    tableBy (firstFailing (esiChecks t (o .today .yymmdd) m)) t (tableAfter t o (m .text) (m .text) 0)
+
+-- a frame
+unfoldable pub frameOutcome : Table → Occasion → Frame → Outcome
+frameOutcome t o f =
+    outcomeOf (firstFailing (frameChecks t (o .today .yymmdd) (o .kind) f)) (grantTo t o (f .suo .text) (f .var .text)) (o .made)
+
+unfoldable pub frameTable : Table → Occasion → Frame → Table
+frameTable t o f =
+    tableBy (firstFailing (frameChecks t (o .today .yymmdd) (o .kind) f)) t
+    (tableAfter t o (f .suo .text) (f .var .text) (keyOr0 (f .once)))
+
+-- ---- the same over lent bytes, for any bytes: on a table, what the laws of proofs/ say
+
+unfoldable pub storedAt : List ℕ → Found → Customer → List ℕ
+storedAt b (At i) c = customerStored b i c
+storedAt b Unknown c = b
+
+unfoldable pub bytesAfter : List ℕ → Occasion → List ℕ → List ℕ → ℕ → List ℕ
+bytesAfter b o m closing once =
+    seedStored (storedAt b (placeOf (tableOf b) (senderOf m)) (recordAfter (tableOf b) o m closing once)) (grantTo (tableOf b) o m closing .seed)
+
+unfoldable pub bytesBy : Fault → List ℕ → List ℕ → List ℕ
+bytesBy Sound before after = after
+bytesBy (FaultFound code field) before after = before
+
+unfoldable pub esiLeaves : List ℕ → Occasion → Collected → List ℕ
+esiLeaves b o m =
+    bytesBy (firstFailing (esiChecks (tableOf b) (o .today .yymmdd) m)) b (bytesAfter b o (m .text) (m .text) 0)
+
+unfoldable pub frameLeaves : List ℕ → Occasion → Frame → List ℕ
+frameLeaves b o f =
+    bytesBy (firstFailing (frameChecks (tableOf b) (o .today .yymmdd) (o .kind) f)) b
+    (bytesAfter b o (f .suo .text) (f .var .text) (keyOr0 (f .once)))

@@ -1,0 +1,2 @@
+-- Document 01's examples.
+pub mod Examples
