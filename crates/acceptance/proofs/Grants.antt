@@ -3,10 +3,11 @@
 use mathlib.Core.Path.{_≡_, refl, sym, ap, _∙_}
 use mathlib.Core.Bool.{Bool, true, false, not}
 use mathlib.Core.List.{List, [], _∷_}
+use mathlib.Core.Logic.{_⊎_, inl, inr, ⊎-elim}
 use Prim.Native.Nat.{ℕ, _≤_}
 use native.Mathlib.Omega.{arith}
 use Rattle.ground.specs.Choice.{either, fails, pick}
-use Rattle.ground.proofs.Choices.{picks, skips}
+use Rattle.ground.proofs.Choices.{picks, skips, left, right}
 use Rattle.ground.specs.Lists.{member}
 use Rattle.calendar.specs.Dates.{realDate}
 use Rattle.keys.specs.Parity.{oddParity}
@@ -14,7 +15,7 @@ use Rattle.keys.specs.Maker.{keyOf, nextSeed}
 use Rattle.keys.specs.declared.KeyMaker.{KeyMaker}
 use Rattle.keys.proofs.Laws.{made-odd}
 use Rattle.customer.proofs.Chain.{turned}
-use Rattle.customer.specs.Customer.{soundCustomer}
+use Rattle.customer.specs.Customer.{soundCustomer, soundKeys}
 use Rattle.customer.specs.declared.Customer.{Customer}
 use Rattle.changeover.specs.Changes.{withKeys, withWorking, withoutPrevious}
 use Rattle.changeover.specs.declared.Key.{Key}
@@ -50,19 +51,19 @@ chosen P false a b p q = q
 module _ (c : Customer) (maker : KeyMaker) (clock today generation request : ℕ) where
   -- the customer as it was, without its previous key, or with a new one
   module _ (P : Granted → Type 0)
-      (same : (code : ℕ) (key : Key) → member code codes ≡ true → P (granted code c key 0 (maker .seed)))
+      (same : (code : ℕ) (key : Key) → member code codes ≡ true → (key ≡ Missing) ⊎ (key ≡ Is (c .working .key)) → P (granted code c key 0 (maker .seed)))
       (dropped : P (granted 1036 (withoutPrevious c) Missing 0 (maker .seed)))
       (renewed : (key : ℕ) → key ≡ keyOf (maker .key) (maker .seed) clock → P (granted 1003 (withWorking c key today) (Is key) 1 (nextSeed (maker .key) (maker .seed) clock))) where
     by-previous : P (underPrevious c maker request)
     unfolding underPrevious member either
-    by-previous = chosen P _ _ _ (same 1002 _ refl) (chosen P _ _ _ (same 1003 _ refl) (same 1037 _ refl))
+    by-previous = chosen P _ _ _ (same 1002 _ refl (inr refl)) (chosen P _ _ _ (same 1003 _ refl (inr refl)) (same 1037 _ refl (inl refl)))
 
     by-current : P (underCurrent c maker clock today request)
     unfolding underCurrent newKey member either
     by-current =
-        chosen P _ _ _ (same 1001 _ refl)
-        (chosen P _ _ _ (chosen P _ _ _ (same 1004 _ refl) (chosen P _ _ _ (same 1005 _ refl) (renewed _ refl)))
-        (chosen P _ _ _ dropped (same 1037 _ refl)))
+        chosen P _ _ _ (same 1001 _ refl (inl refl))
+        (chosen P _ _ _ (chosen P _ _ _ (same 1004 _ refl (inl refl)) (chosen P _ _ _ (same 1005 _ refl (inl refl)) (renewed _ refl)))
+        (chosen P _ _ _ dropped (same 1037 _ refl (inl refl))))
 
     by-answer : P (grantedBy c maker clock today generation request)
     unfolding grantedBy
@@ -71,16 +72,16 @@ module _ (c : Customer) (maker : KeyMaker) (clock today generation request : ℕ
   pub grant-sound : soundCustomer c ≡ true → realDate today ≡ true
       → soundCustomer (grantedBy c maker clock today generation request .customer) ≡ true
   grant-sound s t =
-      by-answer (λ g. soundCustomer (g .customer) ≡ true) (λ code key m. s) (without-previous-sound c s)
+      by-answer (λ g. soundCustomer (g .customer) ≡ true) (λ code key m w. s) (without-previous-sound c s)
       (λ key e. with-working-sound c s key today (ap oddParity e ∙ made-odd (record { key = maker .key; seed = maker .seed }) clock) t)
 
   pub grant-who : grantedBy c maker clock today generation request .customer .who ≡ c .who
   unfolding withKeys withWorking withoutPrevious
-  grant-who = by-answer (λ g. g .customer .who ≡ c .who) (λ code key m. refl) refl (λ key e. refl)
+  grant-who = by-answer (λ g. g .customer .who ≡ c .who) (λ code key m w. refl) refl (λ key e. refl)
 
   pub grant-code : member (grantedBy c maker clock today generation request .code) codes ≡ true
   unfolding member either
-  grant-code = by-answer (λ g. member (g .code) codes ≡ true) (λ code key m. m) refl (λ key e. refl)
+  grant-code = by-answer (λ g. member (g .code) codes ≡ true) (λ code key m w. m) refl (λ key e. refl)
 
   pub grant-stamps : (grantedBy c maker clock today generation request .customer .count ≡ c .count)
       × (grantedBy c maker clock today generation request .customer .stamps ≡ c .stamps)
@@ -88,12 +89,23 @@ module _ (c : Customer) (maker : KeyMaker) (clock today generation request : ℕ
   unfolding withKeys withWorking withoutPrevious
   grant-stamps =
       by-answer (λ g. (g .customer .count ≡ c .count) × (g .customer .stamps ≡ c .stamps) × (g .customer .once ≡ c .once))
-      (λ code key m. (refl, refl, refl)) (refl, refl, refl) (λ key e. (refl, refl, refl))
+      (λ code key m w. (refl, refl, refl)) (refl, refl, refl) (λ key e. (refl, refl, refl))
 
   pub grant-made : grantedBy c maker clock today generation request .made ≤ 1
-  grant-made = by-answer (λ g. g .made ≤ 1) (λ code key m. omega arith) (omega arith) (λ key e. omega arith)
+  grant-made = by-answer (λ g. g .made ≤ 1) (λ code key m w. omega arith) (omega arith) (λ key e. omega arith)
 
   pub grant-seed : grantedBy c maker clock today generation request .made ≡ 0
       → grantedBy c maker clock today generation request .seed ≡ maker .seed
   grant-seed =
-      by-answer (λ g. g .made ≡ 0 → g .seed ≡ maker .seed) (λ code key m z. refl) (λ z. refl) (λ key e z. absurd (omega arith))
+      by-answer (λ g. g .made ≡ 0 → g .seed ≡ maker .seed) (λ code key m w z. refl) (λ z. refl) (λ key e z. absurd (omega arith))
+
+  -- an enclosed key has odd parity if the record's keys have
+  pub grant-odd : soundCustomer c ≡ true → (x : ℕ) → grantedBy c maker clock today generation request .enclosed ≡ Is x
+      → oddParity x ≡ true
+  unfolding soundCustomer soundKeys
+  grant-odd s =
+      let odd : oddParity (c .working .key) ≡ true = left _ _ (right _ _ (left _ _ (right _ _ (right _ _ (right _ _ (right _ _ s)))))) in
+      by-answer (λ g. (x : ℕ) → g .enclosed ≡ Is x → oddParity x ≡ true)
+      (λ code key m w x e. ⊎-elim (λ h. absurd (let z : _≡_ {A = ℕ} 0 1 = cc in omega arith)) (λ h. let k : c .working .key ≡ x = cc in ap oddParity (sym k) ∙ odd) w)
+      (λ x e. absurd (let z : _≡_ {A = ℕ} 0 1 = cc in omega arith))
+      (λ key e x h. let k : key ≡ x = cc in ap oddParity (sym k) ∙ ap oddParity e ∙ made-odd (record { key = maker .key; seed = maker .seed }) clock)

@@ -39,6 +39,11 @@ member-last x (y ∷ l) = either-right (eqb y x) _ (member-last x l)
 
 -- ---- what is live
 
+-- a test that can't fail holds
+unless : (b : Bool) → (b ≡ false → true ≡ false) → b ≡ true
+unless true f = refl
+unless false f = sym (f refl)
+
 clash : {b : Bool} → true ≡ false → b ≡ true
 clash e = cc
 
@@ -77,6 +82,11 @@ module _ (hs : List ℕ) (today : ℕ) where
     -- and so is the new one
     pub stamp-new : length (liveStamps hs today c) < 64 → member stamp (heldStamps (withStamp hs today c stamp once)) ≡ true
     stamp-new h = ap (member stamp) (held-after h) ∙ member-last stamp (liveStamps hs today c)
+
+    -- a stamp that is not held any more was too old
+    pub dropped-old : (s : ℕ) → member s (heldStamps c) ≡ true → length (liveStamps hs today c) < 64
+        → member s (heldStamps (withStamp hs today c stamp once)) ≡ false → stampOld hs today s ≡ true
+    dropped-old s e h f = unless (stampOld hs today s) (λ o. sym (stamp-kept s e o h) ∙ f)
 
     pub stamps-length : length (withStamp hs today c stamp once .stamps) ≡ 64
     unfolding withStamp
