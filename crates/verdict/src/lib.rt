@@ -67,7 +67,7 @@ fn or_else(a: message::Fault, b: message::Fault) -> message::Fault
 }
 
 // The customer who sent a message; where there is none, the one of all-zero bytes.
-fn customer_of(t: &[u8], m: [u8; 161]) -> customer::Customer
+pub fn customer_of(t: &[u8], m: [u8; 161]) -> customer::Customer
     ensures { λ r. ⌜ r ≡ named (tableOf (now (t .entry))) (senderOf m) ⌝ }
 {
     let place = table::find(t, message::sender(m));
@@ -123,7 +123,7 @@ fn digest_differs(a: digest::Answer, d: u64) -> bool
     }
 }
 
-fn key_or_0(k: changeover::Key) -> u64
+pub fn key_or_0(k: changeover::Key) -> u64
     ensures { λ r. ⌜ r ≡ keyOr0 k ⌝ }
 {
     match k {

@@ -1,0 +1,54 @@
+-- Which reply answers what (document 01, 'Replies'): the form, the keys and the texts that go into it.
+-- Assumes nothing.
+use Prim.Native.Nat.{ℕ}
+use mathlib.Core.Bool.{Bool, true}
+use mathlib.Core.List.{List}
+use lib.ListN.{replicate}
+use Rattle.customer.specs.declared.Customer.{Customer}
+use Rattle.changeover.specs.Held.{heldKey}
+use Rattle.changeover.specs.declared.Key.the-variants.{Missing}
+use Rattle.table.specs.Table.{Table}
+use Rattle.table.specs.Named.{named}
+use Rattle.message.specs.Fields.{senderOf, transportGenerationOf, workingGenerationOf}
+use Rattle.verdict.specs.declared.Outcome.{Outcome}
+use Rattle.reply.specs.Codes.{codeIn, codes}
+use Rattle.reply.specs.declared.Answering.{Answering}
+use Rattle.answers.specs.declared.Opening.{Opening}
+
+-- the bare form: it needs the bank's settings alone
+unfoldable pub bareAnswer : Table → Opening → Bool → ℕ → ℕ → Answering
+bareAnswer t o pte code field =
+    record {
+      pte = pte;
+      bare = true;
+      code = code;
+      field = field;
+      time = o .time;
+      bank = t .settings .bank;
+      software = t .settings .software;
+      message = replicate 161 0;
+      closing = replicate 161 0;
+      working = Missing;
+      transport = Missing;
+      enclosed = Missing;
+    }
+
+-- a verdict's reply, on the table as the verdict leaves it: `m` is the message (a frame's SUO), `closing` the one that ended it (the VAR). The
+-- checksum uses the message's working generation if held, whatever the date; a key enclosed is enciphered under its transport generation
+unfoldable pub verdictAnswer : Table → Opening → Bool → Outcome → List ℕ → List ℕ → Answering
+verdictAnswer t o pte out m closing =
+    let c : Customer = named t (senderOf m) in
+    record {
+      pte = pte;
+      bare = codeIn (out .code) codes .bare;
+      code = out .code;
+      field = out .field;
+      time = o .time;
+      bank = t .settings .bank;
+      software = t .settings .software;
+      message = m;
+      closing = closing;
+      working = heldKey (c .working) (workingGenerationOf m);
+      transport = heldKey (c .transport) (transportGenerationOf m);
+      enclosed = out .enclosed;
+    }

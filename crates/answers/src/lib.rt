@@ -1,0 +1,71 @@
+// Which reply answers what: the form, and the keys of the message's generations.
+ghost use mathlib.Core.Path.{_≡_};
+ghost use Rattle.table.specs.Decode.{tableOf};
+ghost use Rattle.answers.specs.Answers.{bareAnswer, verdictAnswer};
+
+// What is given at opening: today, the time hhmmss, the data type and the clock value.
+pub struct Opening {
+    pub today: calendar::Date,
+    pub time: u32,
+    pub kind: u32,
+    pub clock: u64,
+}
+
+// A bare reply.
+pub fn bare_answer(t: &[u8], o: Opening, pte: bool, code: u32, field: u32) -> reply::Answering
+    ensures { λ r. ⌜ r ≡ bareAnswer (tableOf (now (t .entry))) o pte code field ⌝ }
+{
+    let settings = table::settings(t);
+    let bank = settings.bank;
+    let software = settings.software;
+    reply::Answering {
+        pte,
+        bare: true,
+        code,
+        field,
+        time: o.time,
+        bank,
+        software,
+        message: [0; 161],
+        closing: [0; 161],
+        working: changeover::Key::Missing,
+        transport: changeover::Key::Missing,
+        enclosed: changeover::Key::Missing,
+    }
+}
+
+// The reply to a verdict, on the table as the verdict leaves it.
+pub fn verdict_answer(
+    t: &[u8],
+    o: Opening,
+    pte: bool,
+    out: verdict::Outcome,
+    m: [u8; 161],
+    closing: [u8; 161],
+) -> reply::Answering
+    ensures { λ r. ⌜ r ≡ verdictAnswer (tableOf (now (t .entry))) o pte out m closing ⌝ }
+{
+    let settings = table::settings(t);
+    let bank = settings.bank;
+    let software = settings.software;
+    let c = verdict::customer_of(t, m);
+    let working_keys = c.working;
+    let transport_keys = c.transport;
+    let working = changeover::held(working_keys, message::working_generation(m));
+    let transport = changeover::held(transport_keys, message::transport_generation(m));
+    let enclosed = out.enclosed;
+    reply::Answering {
+        pte,
+        bare: reply::is_bare(out.code),
+        code: out.code,
+        field: out.field,
+        time: o.time,
+        bank,
+        software,
+        message: m,
+        closing,
+        working,
+        transport,
+        enclosed,
+    }
+}

@@ -1,0 +1,1 @@
+-- Laws, in the order in which they build on each other.

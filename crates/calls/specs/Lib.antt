@@ -1,0 +1,3 @@
+-- The seven calls as definitions.
+pub mod Reading
+pub mod Calls

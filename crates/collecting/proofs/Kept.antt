@@ -1,0 +1,115 @@
+-- What is kept of a text is cut at the smaller of the count and the room, and a part that ends before the cut is the text's own.
+-- Assumes nothing.
+use mathlib.Core.Path.{_≡_, refl, sym, ap, _∙_}
+use mathlib.Core.Bool.{Bool, true, false}
+use mathlib.Core.List.{List, [], _∷_}
+use Prim.Native.Nat.{ℕ, zero, suc, _+_, _-_, _≤_, _<_, min}
+use native.Mathlib.Nat.{zero-min, min-zero, suc-min-suc, min-le-left, min-le-right, le-trans}
+use native.Mathlib.Omega.{arith}
+use borrow.Author.Tests.{lt-ltb, le-ltb, eq-eqb, ne-eqb}
+use lib.Dec.{eqb, ltb}
+use lib.ListN.{length, take, drop, length-take, length-drop, drop-of-length-le}
+use lib.Seq.{take-take, take-all}
+use Rattle.ground.specs.Choice.{both, fails, pick}
+use Rattle.ground.specs.Lists.{all, part}
+use Rattle.ground.proofs.Choices.{picks, skips, decides, fails-left}
+use Rattle.text.specs.Characters.{digit, allBlank}
+use Rattle.text.specs.Numbers.{decimal}
+use Rattle.splices.proofs.Splice.{take-drop}
+use Rattle.message.specs.Layout.{layoutLength}
+use Rattle.message.specs.declared.Kind.{Kind}
+use Rattle.verdict.specs.declared.Collected.{Collected}
+use Rattle.whole.specs.Messages.{aloneOf}
+use Rattle.session.specs.Events.{held, collectedBy}
+use Rattle.session.specs.declared.Gathered.{Gathered}
+
+-- ---- the cut
+
+pub take-least : (m n : ℕ) (l : List ℕ) → take m (take n l) ≡ take (min m n) l
+take-least zero n l = rw zero-min
+take-least (suc m) zero l = rw min-zero
+take-least (suc m) (suc n) [] = rw suc-min-suc
+take-least (suc m) (suc n) (x ∷ l) = rw suc-min-suc (ap (λ (r : List ℕ). x ∷ r) (take-least m n l))
+
+pub take-kept : (n : ℕ) (l : List ℕ) → take (length (take n l)) l ≡ take n l
+take-kept zero l = refl
+take-kept (suc n) [] = refl
+take-kept (suc n) (x ∷ l) = ap (λ (r : List ℕ). x ∷ r) (take-kept n l)
+
+pub kept-length : (n room : ℕ) (l : List ℕ) → length l ≡ room → length (take n l) ≡ min n room
+kept-length n room l e = length-take n l ∙ ap (min n) e
+
+-- ---- what is over
+
+pub none-over : (from n : ℕ) (l : List ℕ) → length (take n l) ≤ from → true ≡ allBlank (drop from (take n l))
+unfolding all
+none-over from n l h = rw (drop-of-length-le (take n l) h)
+
+pub some-over : (from n k : ℕ) (l : List ℕ) → k ≡ length (take n l) → from < k → take (k - from) (drop from l) ≡ drop from (take n l)
+some-over from n k l e h =
+    let s : from + (k - from) ≡ k = omega arith in
+    take-drop from (k - from) l ∙ ap (λ (i : ℕ). drop from (take i l)) (s ∙ e) ∙ ap (drop from) (take-kept n l)
+
+module _ (kind : Kind) (alone : ℕ) (g : Gathered) (len : ℕ) (b : Bool) (e : len ≡ layoutLength kind) (d : b ≡ allBlank (drop len (take (g .count) (g .text)))) where
+  over : (drop (layoutLength kind) (held g)) ≡ drop len (take (g .count) (g .text))
+  unfolding held
+  over = ap (λ (n : ℕ). drop n (take (g .count) (g .text))) (sym e)
+
+  surplus : allBlank (drop (layoutLength kind) (held g)) ≡ b
+  surplus = ap (λ (l : List ℕ). allBlank l) over ∙ sym d
+
+  made : (x : Bool) → both (allBlank (drop (layoutLength kind) (held g))) (g .blank) ≡ x → record { alone = alone; blank = x; text = g .text } ≡ collectedBy kind alone g
+  unfolding collectedBy
+  made x q = ap (λ (y : Bool). record { alone = alone; blank = y; text = g .text }) (sym q)
+
+  pub blank-over : b ≡ true → record { alone = alone; blank = g .blank; text = g .text } ≡ collectedBy kind alone g
+  blank-over t = made _ (decides _ _ (surplus ∙ t))
+
+  pub other-over : b ≡ false → record { alone = alone; blank = false; text = g .text } ≡ collectedBy kind alone g
+  other-over t = made _ (fails-left _ _ (surplus ∙ t))
+
+-- ---- one record alone
+
+module _ (kind : Kind) (n : ℕ) (l : List ℕ) where
+  pub under-eleven : length (take n l) < 11 → 1 ≡ aloneOf kind (take n l)
+  unfolding aloneOf
+  under-eleven h = sym (picks _ _ _ (lt-ltb _ _ h))
+
+  module _ (h : 11 ≤ length (take n l)) where
+    whole-part : part 5 3 (take n l) ≡ part 5 3 l
+    unfolding part
+    whole-part =
+        let e : length (take n l) ≡ min n (length l) = length-take n l in
+        let m : 8 ≤ n = omega (arith, min-le-left n (length l)) in
+        take-drop 5 3 (take n l) ∙ ap (drop 5) (take-take 8 n l m) ∙ sym (take-drop 5 3 l)
+
+    past-eleven : {A : Type 0} (a b : A) → pick (ltb (length (take n l)) 11) a b ≡ b
+    past-eleven a b = skips _ a b (le-ltb _ _ h)
+
+    pub letters-in-it : (b : Bool) → b ≡ all digit (part 5 3 l) → b ≡ false → 2 ≡ aloneOf kind (take n l)
+    unfolding aloneOf fails
+    letters-in-it b d f =
+        sym (past-eleven _ _ ∙ picks _ _ _ (ap (λ (p : List ℕ). fails (all digit p)) whole-part ∙ ap fails (sym d ∙ f)))
+
+    module _ (b : Bool) (d : b ≡ all digit (part 5 3 l)) (t : b ≡ true) (r : ℕ) (e : r ≡ decimal (take 19 (part 5 3 l))) (len : ℕ) (g : len ≡ layoutLength kind) where
+      digits-in-it : {A : Type 0} (x y : A) → pick (fails (all digit (part 5 3 (take n l)))) x y ≡ y
+      unfolding fails
+      digits-in-it x y = skips _ x y (ap (λ (p : List ℕ). fails (all digit p)) whole-part ∙ ap fails (sym d ∙ t))
+
+      read : r ≡ decimal (part 5 3 (take n l))
+      unfolding part
+      read =
+          let s : length (take 3 (drop 5 l)) ≤ 19 = simp length-take (le-trans (min-le-left 3 (length (drop 5 l))) (omega arith)) in
+          e ∙ ap decimal (take-all 19 (take 3 (drop 5 l)) s) ∙ ap decimal (sym whole-part)
+
+      pub other-length : (r ≡ len → ⊥) → 3 ≡ aloneOf kind (take n l)
+      unfolding aloneOf fails
+      other-length w =
+          let q : eqb (decimal (part 5 3 (take n l))) (layoutLength kind) ≡ false = ne-eqb _ _ (λ z. w (read ∙ z ∙ sym g)) in
+          sym (past-eleven _ _ ∙ digits-in-it _ _ ∙ picks _ _ _ (ap fails q))
+
+      pub its-length : r ≡ len → 0 ≡ aloneOf kind (take n l)
+      unfolding aloneOf fails
+      its-length w =
+          let q : eqb (decimal (part 5 3 (take n l))) (layoutLength kind) ≡ true = eq-eqb _ _ (sym read ∙ w ∙ g) in
+          sym (past-eleven _ _ ∙ digits-in-it _ _ ∙ skips _ _ _ (ap fails q))

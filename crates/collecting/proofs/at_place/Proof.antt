@@ -1,0 +1,14 @@
+-- The parts are those of the definition.
+use mathlib.Core.Path.{refl}
+use Rattle.session.specs.Events.{placed}
+use Rattle.collecting.proofs.at_place.Statement.{statement}
+use Rattle.collecting.proofs.at_place.Tie as tie
+use Rattle.collecting.proofs.at_place.Reads as reads
+use Rattle.collecting.proofs.at_place.Lts as lts
+
+returns : tie.Need-returns
+unfolding placed
+returns c = refl
+
+pub at-place-spec : {M : Type 1} → statement M
+at-place-spec = tie.close (tie.spec returns)

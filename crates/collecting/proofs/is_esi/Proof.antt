@@ -1,0 +1,31 @@
+-- By cases on the kind.
+use Rattle.session.specs.Events.{isEsi}
+use borrow.Author.Needs.{needs}
+use Rattle.collecting.proofs.is_esi.Statement.{statement}
+use Rattle.collecting.proofs.is_esi.Tie as tie
+use Rattle.collecting.proofs.is_esi.Reads as reads
+use Rattle.collecting.proofs.is_esi.Lts as lts
+
+enum-told : tie.Need-enum-told
+enum-told c = search needs
+
+enum-told-2 : tie.Need-enum-told-2
+enum-told-2 c = search needs
+
+enum-told-3 : tie.Need-enum-told-3
+enum-told-3 c = search needs
+
+returns : tie.Need-returns
+unfolding isEsi
+returns c = rw (c .enum-told .given .1)
+
+returns-2 : tie.Need-returns-2
+unfolding isEsi
+returns-2 c = rw (c .enum-told2 .given .1)
+
+returns-3 : tie.Need-returns-3
+unfolding isEsi
+returns-3 c = rw (c .enum-told3 .given .1)
+
+pub is-esi-spec : {M : Type 1} → statement M
+is-esi-spec = tie.close (tie.spec enum-told enum-told-2 enum-told-3 returns returns-2 returns-3)

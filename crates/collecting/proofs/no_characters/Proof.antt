@@ -1,0 +1,14 @@
+-- The parts are those of the definition.
+use mathlib.Core.Path.{refl}
+use Rattle.session.specs.Events.{nothing}
+use Rattle.collecting.proofs.no_characters.Statement.{statement}
+use Rattle.collecting.proofs.no_characters.Tie as tie
+use Rattle.collecting.proofs.no_characters.Reads as reads
+use Rattle.collecting.proofs.no_characters.Lts as lts
+
+returns : tie.Need-returns
+unfolding nothing
+returns c = refl
+
+pub no-characters-spec : {M : Type 1} → statement M
+no-characters-spec = tie.close (tie.spec returns)

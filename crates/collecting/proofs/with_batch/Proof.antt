@@ -1,0 +1,14 @@
+-- The parts are those of the definition.
+use mathlib.Core.Path.{refl}
+use Rattle.session.specs.Events.{withBatch}
+use Rattle.collecting.proofs.with_batch.Statement.{statement}
+use Rattle.collecting.proofs.with_batch.Tie as tie
+use Rattle.collecting.proofs.with_batch.Reads as reads
+use Rattle.collecting.proofs.with_batch.Lts as lts
+
+returns : tie.Need-returns
+unfolding withBatch
+returns c = refl
+
+pub with-batch-spec : {M : Type 1} → statement M
+with-batch-spec = tie.close (tie.spec returns)

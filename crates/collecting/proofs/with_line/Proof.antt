@@ -1,0 +1,14 @@
+-- The parts are those of the definition.
+use mathlib.Core.Path.{refl}
+use Rattle.session.specs.Machine.{withLine}
+use Rattle.collecting.proofs.with_line.Statement.{statement}
+use Rattle.collecting.proofs.with_line.Tie as tie
+use Rattle.collecting.proofs.with_line.Reads as reads
+use Rattle.collecting.proofs.with_line.Lts as lts
+
+returns : tie.Need-returns
+unfolding withLine
+returns c = refl
+
+pub with-line-spec : {M : Type 1} → statement M
+with-line-spec = tie.close (tie.spec returns)

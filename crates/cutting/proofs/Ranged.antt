@@ -1,0 +1,51 @@
+-- A step leaves the numbers of a session in their ranges and closes no file without a reply: both are read off what it keeps.
+-- `keeps-step`, `keeps-scan`, `keeps-last` and `keeps-file` (Keeps) say so of a byte, of bytes, of a last record and of the file's end.
+-- Assumes nothing.
+use Prim.Native.Nat.{ℕ}
+use mathlib.Core.Path.{_≡_, ap, _∙_}
+use mathlib.Core.List.{List}
+use mathlib.Core.Bool.{true, false}
+use borrow.Author.Tests.{leb-true, le-leb}
+use Rattle.ground.specs.Choice.{between}
+use Rattle.ground.proofs.Choices.{left, right, join}
+use Rattle.calendar.specs.Dates.{realTime}
+use Rattle.answers.specs.declared.Opening.{Opening}
+use Rattle.session.specs.Events.{Turn}
+use Rattle.session.specs.Machine.{stepped, scanned}
+use Rattle.session.specs.Ranges.{Fits, inRange, isClosed}
+use Rattle.session.specs.declared.Session.{Session}
+use Rattle.cutting.proofs.Stays.{Stays}
+use Rattle.cutting.proofs.Keeps.{Keeps, keeps-step, keeps-scan}
+
+stays-in-range : {s u : Session} → Stays s u → inRange s ≡ true → inRange u ≡ true
+unfolding inRange
+stays-in-range a e =
+    let r = right _ _ (right _ _ e) in
+    join _ _ (ap (λ (o : Opening). realTime (o .time)) (a .opening-stays) ∙ left _ _ e)
+    (join _ _ (ap (λ (o : Opening). between 1 16 (o .kind)) (a .opening-stays) ∙ left _ _ (right _ _ e))
+    (join _ _ (le-leb _ _ (a .count-stays (leb-true _ _ (left _ _ r)))) (le-leb _ _ (a .alone-stays (leb-true _ _ (right _ _ r))))))
+
+module _ {s : Session} {w : List ℕ} {x : Turn} (k : Keeps s w x) where
+  pub in-range : inRange s ≡ true → inRange (x .out .session) ≡ true
+  in-range = stays-in-range (k .stays)
+
+  pub still-fits : Fits s → Fits (x .out .session)
+  still-fits = k .stays .fits-stays
+
+  pub same-opening : x .out .session .opening ≡ s .opening
+  same-opening = k .stays .opening-stays
+
+  pub same-opened : x .out .session .opened ≡ s .opened
+  same-opened = k .stays .opened-stays
+
+  pub same-ended : x .out .session .ended ≡ s .ended
+  same-ended = k .stays .ended-stays
+
+pub quiet-stays-open : (s : Session) (w : List ℕ) (b : ℕ) → isClosed (s .place) ≡ false → stepped s w b .out .reply .given ≡ false
+    → isClosed (stepped s w b .out .session .place) ≡ false
+quiet-stays-open s w b = keeps-step s w b .stays-open
+
+pub quiet-scan-stays-open : (xs : List ℕ) (s : Session) (w : List ℕ) → isClosed (s .place) ≡ false
+    → scanned s w xs .turn .out .reply .given ≡ false
+    → isClosed (scanned s w xs .turn .out .session .place) ≡ false
+quiet-scan-stays-open xs s w = keeps-scan xs s w .stays-open

@@ -1,0 +1,2 @@
+-- What the laws are said of, besides the machine.
+pub mod Plain

@@ -1,0 +1,2 @@
+-- What a session stands for.
+pub mod Stands

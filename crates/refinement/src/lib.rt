@@ -1,0 +1,1 @@
+// The machine says what the whole-file answer says: laws, no code.

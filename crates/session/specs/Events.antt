@@ -1,0 +1,332 @@
+-- Events to replies: what characters, a record's end, a byte past the size limit and the file's end do to a session and a table.
+-- Assumes nothing.
+use Prim.Native.Nat.{ℕ, _+_}
+use mathlib.Core.Bool.{Bool, true, false}
+use mathlib.Core.List.{List, [], _∷_, _++_}
+use lib.Dec.{eqb, ltb}
+use lib.ListN.{take, drop, set, replicate}
+use Rattle.ground.specs.Choice.{both, pick}
+use Rattle.text.specs.Characters.{blank, allBlank}
+use Rattle.des.specs.Des.{enciphered}
+use Rattle.digest.specs.Running.{begun, alike, tookBytes, ended, answered}
+use Rattle.changeover.specs.declared.Key.the-variants.{Missing}
+use Rattle.table.specs.Decode.{tableOf}
+use Rattle.message.specs.Layout.{layoutLength}
+use Rattle.message.specs.Fields.{senderOf, methodOf}
+use Rattle.message.specs.declared.Kind.{Kind}
+use Rattle.message.specs.declared.Kind.the-variants.{Esi, Suo, Var}
+use Rattle.verdict.specs.Checks.{keyOr0}
+use Rattle.verdict.specs.Outcomes.{esiOutcome, esiLeaves, frameOutcome, frameLeaves}
+use Rattle.verdict.specs.declared.Collected.{Collected}
+use Rattle.verdict.specs.declared.Frame.{Frame}
+use Rattle.verdict.specs.declared.Occasion.{Occasion}
+use Rattle.verdict.specs.declared.Outcome.{Outcome}
+use Rattle.reply.specs.Codes.{codeIn, codes}
+use Rattle.reply.specs.declared.Answering.{Answering}
+use Rattle.answers.specs.Answers.{bareAnswer, verdictAnswer}
+use Rattle.whole.specs.Messages.{begins, aloneOf, wantsMore, oneTimeOf}
+use Rattle.whole.specs.WholeFile.{occasion}
+use Rattle.session.specs.declared.Line.{Line}
+use Rattle.session.specs.declared.Place.{Place}
+use Rattle.session.specs.declared.Place.the-variants.{BeforeEsi, Outside, Collecting, InData, Closed}
+use Rattle.session.specs.declared.Gathered.{Gathered}
+use Rattle.session.specs.declared.Batch.{Batch}
+use Rattle.session.specs.declared.Session.{Session}
+use Rattle.session.specs.declared.Reply.{Reply}
+use Rattle.session.specs.declared.Stepped.{Stepped}
+
+-- ---- characters
+
+-- the record or message on its way with one character more: 161 are kept, of those past them only whether all were blank
+unfoldable pub gatheredWith : Gathered → ℕ → Gathered
+gatheredWith g c =
+    pick (ltb (g .count) 161) (record { count = g .count + 1; blank = g .blank; text = set (g .text) (g .count) c })
+    (record { count = g .count; blank = both (g .blank) (eqb c blank); text = g .text })
+
+unfoldable pub gatheredAll : Gathered → List ℕ → Gathered
+gatheredAll g [] = g
+gatheredAll g (c ∷ l) = gatheredAll (gatheredWith g c) l
+
+unfoldable pub isData : Place → Bool
+isData BeforeEsi = false
+isData Outside = false
+isData (Collecting kind) = false
+isData InData = true
+isData Closed = false
+
+-- in data the characters go into the digest too; `e` enciphers under the one-time key
+unfoldable pub batchWith : (ℕ → ℕ) → Place → Batch → List ℕ → Batch
+batchWith e p b l =
+    pick (isData p) (record { suo = b .suo; once = b .once; running = tookBytes e (b .running) l }) b
+
+unfoldable pub heardBy : (ℕ → ℕ) → Session → List ℕ → Session
+heardBy e s l =
+    record {
+      opened = s .opened;
+      ended = s .ended;
+      told = s .told;
+      opening = s .opening;
+      made = s .made;
+      sender = s .sender;
+      line = s .line;
+      place = s .place;
+      gathered = gatheredAll (s .gathered) l;
+      batch = batchWith e (s .place) (s .batch) l;
+    }
+
+unfoldable pub cipherOf : Session → ℕ → ℕ
+cipherOf s x = enciphered (keyOr0 (s .batch .once)) x
+
+unfoldable pub heard : Session → List ℕ → Session
+heard s l = heardBy (cipherOf s) s l
+
+-- ---- what a step gives
+
+-- a session and a reply, and the table's bytes after it
+pub record Turn : Type 0 where
+  pub out : Stepped
+  pub table : List ℕ
+
+-- the reply that stands where none is given
+abbrev pub noReply : Reply
+noReply =
+    record {
+      given = false;
+      answer =
+          record {
+            pte = false;
+            bare = false;
+            code = 0;
+            field = 0;
+            time = 0;
+            bank = replicate 25 0;
+            software = replicate 16 0;
+            message = replicate 161 0;
+            closing = replicate 161 0;
+            working = Missing;
+            transport = Missing;
+            enclosed = Missing;
+          };
+    }
+
+unfoldable pub silent : Session → List ℕ → Turn
+silent s w = record { out = record { session = s; reply = noReply }; table = w }
+
+unfoldable pub replies : Answering → Session → List ℕ → Turn
+replies a s w = record { out = record { session = s; reply = record { given = true; answer = a } }; table = w }
+
+-- nothing on its way
+unfoldable pub nothing : Gathered
+nothing = record { count = 0; blank = true; text = replicate 161 0 }
+
+-- another place, with 1023 given or not, and what is gathered
+unfoldable pub placed : Session → Place → Bool → Gathered → Session
+placed s p told g =
+    record {
+      opened = s .opened;
+      ended = s .ended;
+      told = told;
+      opening = s .opening;
+      made = s .made;
+      sender = s .sender;
+      line = s .line;
+      place = p;
+      gathered = g;
+      batch = s .batch;
+    }
+
+unfoldable pub withBatch : Session → Batch → Session
+withBatch s b =
+    record {
+      opened = s .opened;
+      ended = s .ended;
+      told = s .told;
+      opening = s .opening;
+      made = s .made;
+      sender = s .sender;
+      line = s .line;
+      place = s .place;
+      gathered = s .gathered;
+      batch = b;
+    }
+
+-- after a verdict: the keys made in this file, and the ESI's sender
+unfoldable pub judged : Session → Place → ℕ → List ℕ → Session
+judged s p made sender =
+    record {
+      opened = s .opened;
+      ended = s .ended;
+      told = false;
+      opening = s .opening;
+      made = made;
+      sender = sender;
+      line = s .line;
+      place = p;
+      gathered = nothing;
+      batch = s .batch;
+    }
+
+unfoldable pub shut : Session → Session
+shut s = placed s Closed (s .told) nothing
+
+-- a bare reply, ESI or PTE
+unfoldable pub bareTurn : Session → List ℕ → Bool → ℕ → ℕ → Session → Turn
+bareTurn s w pte code field after = replies (bareAnswer (tableOf w) (s .opening) pte code field) after w
+
+-- ---- a message's end
+
+-- the characters that are kept of the record or message on its way
+unfoldable pub held : Gathered → List ℕ
+held g = take (g .count) (g .text)
+
+unfoldable pub collectedBy : Kind → ℕ → Gathered → Collected
+collectedBy kind alone g =
+    record { alone = alone; blank = both (allBlank (drop (layoutLength kind) (held g))) (g .blank); text = g .text }
+
+unfoldable pub placeAfterEsi : Bool → Place
+placeAfterEsi true = Outside
+placeAfterEsi false = Closed
+
+unfoldable pub esiDone : Session → List ℕ → Collected → Turn
+esiDone s w m =
+    let o : Occasion = occasion (s .opening) (s .made) in
+    let out : Outcome = esiOutcome (tableOf w) o m in
+    let after : List ℕ = esiLeaves w o m in
+    replies (verdictAnswer (tableOf after) (s .opening) false out (m .text) (m .text))
+    (judged s (placeAfterEsi (codeIn (out .code) codes .accepted)) (out .made) (senderOf (m .text)))
+    after
+
+unfoldable pub suoDone : Session → List ℕ → Collected → Session
+suoDone s w m =
+    withBatch (placed s InData (s .told) nothing)
+    (record { suo = m; once = oneTimeOf (tableOf w) (m .text); running = alike begun })
+
+-- the frame, with the digest of the records before the VAR
+unfoldable pub frameBy : Session → Collected → Frame
+frameBy s m =
+    record {
+      suo = s .batch .suo;
+      var = m;
+      once = s .batch .once;
+      digest = answered (cipherOf s) (s .batch .running .start);
+    }
+
+unfoldable pub varDone : Session → List ℕ → Collected → Turn
+varDone s w m =
+    let o : Occasion = occasion (s .opening) (s .made) in
+    let out : Outcome = frameOutcome (tableOf w) o (frameBy s m) in
+    let after : List ℕ = frameLeaves w o (frameBy s m) in
+    replies (verdictAnswer (tableOf after) (s .opening) true out (s .batch .suo .text) (m .text))
+    (judged s Outside (out .made) (s .sender))
+    after
+
+-- ---- a record's end in a message: it takes records until its length is reached
+
+unfoldable pub keepsOn : Session → Kind → Session
+keepsOn s kind = placed s (Collecting kind) (s .told) (s .gathered)
+
+unfoldable pub esiOn : Session → List ℕ → Turn
+esiOn s w =
+    pick (wantsMore Esi (held (s .gathered))) (silent (keepsOn s Esi) w) (esiDone s w (collectedBy Esi 0 (s .gathered)))
+
+unfoldable pub suoOn : Session → List ℕ → Session
+suoOn s w =
+    pick (wantsMore Suo (held (s .gathered))) (keepsOn s Suo) (suoDone s w (collectedBy Suo 0 (s .gathered)))
+
+unfoldable pub varOn : Session → List ℕ → Turn
+varOn s w =
+    pick (wantsMore Var (held (s .gathered))) (silent (keepsOn s Var) w) (varDone s w (collectedBy Var 0 (s .gathered)))
+
+-- ---- a message's first record
+
+unfoldable pub aloneBy : Kind → Session → ℕ
+aloneBy kind s = aloneOf kind (held (s .gathered))
+
+unfoldable pub esiStart : Session → List ℕ → Turn
+esiStart s w =
+    pick (eqb (aloneBy Esi s) 0) (esiOn s w) (esiDone s w (collectedBy Esi (aloneBy Esi s) (s .gathered)))
+
+unfoldable pub suoStart : Session → List ℕ → Session
+suoStart s w =
+    pick (eqb (aloneBy Suo s) 0) (suoOn s w) (suoDone s w (collectedBy Suo (aloneBy Suo s) (s .gathered)))
+
+unfoldable pub varStart : Session → List ℕ → Turn
+varStart s w =
+    pick (eqb (aloneBy Var s) 0) (varOn s w) (varDone s w (collectedBy Var (aloneBy Var s) (s .gathered)))
+
+-- ---- a record's end
+
+unfoldable pub firstEnds : Session → List ℕ → Turn
+firstEnds s w = pick (begins ">>ESI" (held (s .gathered))) (esiStart s w) (bareTurn s w false 1010 10 (shut s))
+
+unfoldable pub outsideEnds : Session → List ℕ → Turn
+outsideEnds s w =
+    pick (begins ">>SUO" (held (s .gathered))) (silent (suoStart s w) w)
+    (pick (begins ">>ESI" (held (s .gathered))) (bareTurn s w false 1011 10 (shut s))
+    (pick (s .told) (silent (placed s Outside true nothing) w) (bareTurn s w true 1023 0 (placed s Outside true nothing))))
+
+-- the end of a data record
+unfoldable pub dataTaken : Session → Session
+dataTaken s =
+    withBatch (placed s InData (s .told) nothing)
+    (record {
+      suo = s .batch .suo;
+      once = s .batch .once;
+      running = ended (methodOf (s .batch .suo .text)) (s .batch .running);
+    })
+
+unfoldable pub frameEnds : Session → List ℕ → Turn
+frameEnds s w =
+    pick (begins ">>VAR" (held (s .gathered))) (varStart s w)
+    (pick (begins ">>SUO" (held (s .gathered))) (bareTurn s w true 1024 0 (suoStart s w))
+    (pick (begins ">>ESI" (held (s .gathered))) (bareTurn s w true 1024 0 (shut s)) (silent (dataTaken s) w)))
+
+unfoldable pub collectingEnds : Kind → Session → List ℕ → Turn
+collectingEnds Esi s w = esiOn s w
+collectingEnds Suo s w = silent (suoOn s w) w
+collectingEnds Var s w = varOn s w
+
+unfoldable pub endsIn : Place → Session → List ℕ → Turn
+endsIn BeforeEsi s w = firstEnds s w
+endsIn Outside s w = outsideEnds s w
+endsIn (Collecting kind) s w = collectingEnds kind s w
+endsIn InData s w = frameEnds s w
+endsIn Closed s w = silent s w
+
+unfoldable pub recordEnded : Session → List ℕ → Turn
+recordEnded s w = endsIn (s .place) s w
+
+-- ---- a byte past the size limit
+
+-- until an ESI is accepted every reply is an ESI
+unfoldable pub isEsi : Kind → Bool
+isEsi Esi = true
+isEsi Suo = false
+isEsi Var = false
+
+unfoldable pub passedIn : Place → Session → List ℕ → Turn
+passedIn BeforeEsi s w = bareTurn s w false 1034 0 (shut s)
+passedIn Outside s w = bareTurn s w true 1034 0 (shut s)
+passedIn (Collecting kind) s w = bareTurn s w (pick (isEsi kind) false true) 1034 0 (shut s)
+passedIn InData s w = bareTurn s w true 1034 0 (shut s)
+passedIn Closed s w = silent s w
+
+unfoldable pub passed : Session → List ℕ → Turn
+passed s w = passedIn (s .place) s w
+
+-- ---- the file's end
+
+unfoldable pub cutShort : Kind → Session → List ℕ → Turn
+cutShort Esi s w = esiDone s w (collectedBy Esi 1 (s .gathered))
+cutShort Suo s w = bareTurn s w true 1032 0 (shut s)
+cutShort Var s w = varDone s w (collectedBy Var 1 (s .gathered))
+
+unfoldable pub finishedIn : Place → Session → List ℕ → Turn
+finishedIn BeforeEsi s w = silent s w
+finishedIn Outside s w = silent s w
+finishedIn (Collecting kind) s w = cutShort kind s w
+finishedIn InData s w = bareTurn s w true 1024 0 (shut s)
+finishedIn Closed s w = silent s w
+
+unfoldable pub fileEnded : Session → List ℕ → Turn
+fileEnded s w = finishedIn (s .place) s w

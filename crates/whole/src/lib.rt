@@ -1,0 +1,1 @@
+// The answer to a whole file: definitions and laws, no code.

@@ -1,0 +1,3 @@
+-- The statements.
+pub mod Early
+pub mod Later

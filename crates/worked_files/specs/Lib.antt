@@ -1,0 +1,2 @@
+-- Small files and their answers.
+pub mod Files

@@ -1,0 +1,1347 @@
+//! Cases from a seed: banks, good and damaged files, cuts into reads, and calls in between.
+//! The maker runs the model as it goes, so that later messages know the keys and stamps that
+//! earlier ones left behind.
+use crate::bank::{padded, who, Bank, Customer, Keys, Previous, Stamp, TABLE};
+use crate::calendar::{day, yymmdd, Day, LAST};
+use crate::case::{Call, Case, Model, Step};
+use crate::customer::{self, put, seal, Wish};
+use crate::fields::*;
+use crate::file::Answer;
+use crate::keys::{check_value, next_generation, set_parity, transport_key};
+use crate::mac::{hex16, Method};
+
+/// splitmix64.
+#[derive(Clone)]
+pub struct Dice(pub u64);
+
+impl Dice {
+    pub fn draw(&mut self) -> u64 {
+        self.0 = self.0.wrapping_add(0x9E3779B97F4A7C15);
+        let mut z = self.0;
+        z = (z ^ (z >> 30)).wrapping_mul(0xBF58476D1CE4E5B9);
+        z = (z ^ (z >> 27)).wrapping_mul(0x94D049BB133111EB);
+        z ^ (z >> 31)
+    }
+    pub fn below(&mut self, n: usize) -> usize {
+        (self.draw() % n as u64) as usize
+    }
+    pub fn between(&mut self, low: i64, high: i64) -> i64 {
+        low + self.below((high - low + 1) as usize) as i64
+    }
+    pub fn chance(&mut self, percent: usize) -> bool {
+        self.below(100) < percent
+    }
+    pub fn per_mille(&mut self, n: usize) -> bool {
+        self.below(1000) < n
+    }
+    pub fn pick<T: Clone>(&mut self, of: &[T]) -> T {
+        of[self.below(of.len())].clone()
+    }
+    /// The place of a weight drawn.
+    pub fn weighted(&mut self, weights: &[usize]) -> usize {
+        let mut n = self.below(weights.iter().sum());
+        for (i, w) in weights.iter().enumerate() {
+            if n < *w {
+                return i;
+            }
+            n -= w;
+        }
+        unreachable!("within the sum")
+    }
+}
+
+/// What a generator may do.
+#[derive(Clone, Copy, Debug)]
+pub struct Plan {
+    /// Lend sessions that were never opened (zero bytes), which are refusal 3.
+    pub unopened: bool,
+    /// Copy a session's bytes and go on with both.
+    pub copies: bool,
+    /// Lend tables and sessions of wrong lengths, and bytes that are no table.
+    pub wrong_buffers: bool,
+}
+
+impl Default for Plan {
+    fn default() -> Plan {
+        Plan { unopened: true, copies: true, wrong_buffers: true }
+    }
+}
+
+const IDENTITIES: [&str; 5] = ["CUSTOMER1", "99910000011111111", " CUSTOMER1", "A", "OY FIRMA AB"];
+const QUALIFIERS: [&str; 5] = ["", "A", "B", " A", "12345678"];
+
+fn shifted(date: u32, by: i64) -> u32 {
+    let d = day(date).map_or(0, |d| d.0 as i64) + by;
+    yymmdd(Day(d.clamp(0, LAST.0 as i64) as u32))
+}
+
+fn key(d: &mut Dice) -> u64 {
+    set_parity(d.draw())
+}
+
+fn time(d: &mut Dice) -> u32 {
+    (d.below(24) * 10_000 + d.below(60) * 100 + d.below(60)) as u32
+}
+
+fn generate_keys(d: &mut Dice, today: u32, changeover: usize) -> Keys {
+    let generation = d.below(10) as u32;
+    let previous = if generation > 0 && d.chance(changeover) {
+        let before = if generation == 1 { d.pick(&[0, 9]) } else { generation - 1 };
+        let first = shifted(today, -d.between(0, 12));
+        // Often with an edge on today or just beside it.
+        let last = match d.below(5) {
+            0 => today,
+            1 => shifted(today, -1).max(first),
+            2 => shifted(first, d.between(0, 4)),
+            3 => shifted(today, d.between(1, 3)),
+            _ => shifted(first, d.between(1, 60)),
+        };
+        let last = if day(last) < day(first) { first } else { last };
+        Some(Previous { generation: before, key: key(d), first, last })
+    } else {
+        None
+    };
+    Keys { generation, key: key(d), previous }
+}
+
+fn generate_stamps(d: &mut Dice, today: u32) -> Vec<Stamp> {
+    let (count, oldest) = match d.weighted(&[30, 45, 12, 8, 5]) {
+        0 => (0, 0),
+        1 => (d.below(8), 12),
+        2 => (60 + d.below(5), 3),
+        3 => (64, 12),
+        _ => (64, 0),
+    };
+    let mut out: Vec<Stamp> = Vec::new();
+    for i in 0..count {
+        // The table may hold stamps the calls never write: later than its day, or twice.
+        let back = if d.per_mille(10) { -2 } else { d.between(0, oldest) };
+        let date = shifted(today, -back) as u64;
+        let number = date * 1_000_000_000 + time(d) as u64 * 1000 + (i as u64 * 7 + d.below(7) as u64) % 1000;
+        let one_time_key = d.chance(60).then(|| key(d));
+        out.push(Stamp { number, one_time_key });
+    }
+    out
+}
+
+fn generate_customer(d: &mut Dice, today: u32, name: [u8; 25]) -> Customer {
+    Customer {
+        who: name,
+        types: if d.chance(75) { 0xFFFF } else { d.below(0x10000) as u32 },
+        agreed: d.chance(92),
+        leave: d.chance(70),
+        length: d.pick(&[1, 2, 30, 59, 60]),
+        transport: generate_keys(d, today, 40),
+        working: generate_keys(d, today, 50),
+        stamps: generate_stamps(d, today),
+    }
+}
+
+fn generate_day(d: &mut Dice) -> u32 {
+    if d.chance(50) {
+        return yymmdd(Day(d.below(LAST.0 as usize + 1) as u32));
+    }
+    d.pick(&[941017, 941024, 991230, 101, 229, 791230, 791225, 800105, 800101, 950103, 960229, 301])
+}
+
+fn generate_holidays(d: &mut Dice, today: u32) -> Vec<u32> {
+    let mut days: Vec<u32> = match d.weighted(&[40, 45, 10, 5]) {
+        0 => Vec::new(),
+        1 => (0..d.below(6)).map(|_| shifted(today, d.between(-12, 8))).collect(),
+        2 => (0..d.below(40)).map(|_| shifted(today, d.between(-400, 400))).collect(),
+        // A table full of holidays: stamps grow very old without a banking day.
+        _ => {
+            let from = d.between(-190, -5);
+            (0..200).map(|i| shifted(today, from + i)).collect()
+        }
+    };
+    days.sort_by_key(|&x| day(x));
+    days.dedup();
+    days
+}
+
+pub fn generate_bank(d: &mut Dice) -> Bank {
+    let today = generate_day(d);
+    let mut customers: Vec<Customer> = Vec::new();
+    let count = match d.weighted(&[3, 35, 30, 20, 10, 2]) {
+        5 => d.pick(&[31, 32]),
+        n => n,
+    };
+    while customers.len() < count {
+        let name = if count > 10 {
+            who(&format!("CUSTOMER{}", customers.len()), d.pick(&QUALIFIERS))
+        } else if !customers.is_empty() && d.chance(50) {
+            // The same identity again under another qualifier.
+            let mut name = d.pick(&customers).who;
+            name[17..].copy_from_slice(&padded::<8>(d.pick(&QUALIFIERS)));
+            name
+        } else {
+            who(d.pick(&IDENTITIES), d.pick(&QUALIFIERS))
+        };
+        if customers.iter().all(|c| c.who != name) {
+            customers.push(generate_customer(d, today, name));
+        }
+    }
+    Bank {
+        day: today,
+        bank: who("003701234567", if d.chance(30) { "EAST" } else { "" }),
+        software: padded(d.pick(&["FRONT 4", "PANKKILINJA 1.20", " X"])),
+        floor: d.pick(&[110, 110, 120]),
+        k: d.draw(),
+        v: d.draw(),
+        holidays: generate_holidays(d, today),
+        customers,
+    }
+}
+
+/// A file on its way: what has been written of it and not yet read.
+#[derive(Clone)]
+struct Pending {
+    slot: usize,
+    customer: Option<usize>,
+    items_left: usize,
+    started: bool,
+    unread: Vec<u8>,
+    /// Calls to make once so many more bytes of `unread` are read.
+    injected: Vec<(usize, Call)>,
+    line_ends: usize,
+    cut: usize,
+    last_frame: Vec<u8>,
+    /// Asks for keys and ends changeovers in turn, so that one file makes several keys.
+    tour: bool,
+}
+
+struct Maker {
+    d: Dice,
+    plan: Plan,
+    model: Model,
+    steps: Vec<Step>,
+    pending: Vec<Pending>,
+    slots: usize,
+}
+
+pub fn case(seed: u64) -> Case {
+    case_by(seed, Plan::default())
+}
+
+pub fn case_by(seed: u64, plan: Plan) -> Case {
+    let mut d = Dice(seed.wrapping_mul(0xD1342543DE82EF95) ^ 0x5851F42D4C957F2D);
+    d.draw();
+    let from_nothing = d.chance(4);
+    let mut start = if from_nothing { Vec::new() } else { generate_bank(&mut d).encode() };
+    let total = start.len();
+    // What lies past the total length is anything.
+    let filler: Vec<u8> = (0..64).flat_map(|_| d.draw().to_le_bytes()).collect();
+    while start.len() < TABLE {
+        let n = filler.len().min(TABLE - start.len());
+        start.extend_from_slice(&filler[..n]);
+    }
+    if plan.wrong_buffers && !from_nothing && d.chance(5) {
+        for _ in 0..d.between(1, 2) {
+            spoil(&mut d, &mut start, total);
+        }
+    }
+    let model = Model::new(&start);
+    let mut maker = Maker { d, plan, model, steps: Vec::new(), pending: Vec::new(), slots: 0 };
+    maker.make(from_nothing);
+    Case { start, steps: maker.steps }
+}
+
+/// Changes a byte of a table so that it is perhaps none: a count, flag, generation, key or day
+/// more often than the rest.
+fn spoil(d: &mut Dice, table: &mut [u8], total: usize) {
+    let first_customer = u32::from_le_bytes([table[20], table[21], table[22], table[23]]) as usize;
+    let at = match d.below(5) {
+        0 => d.below(82),
+        1 => d.below(24),
+        2 | 3 if total > first_customer && total <= TABLE => {
+            let customers = (total - first_customer) / 1109;
+            let start = first_customer + 1109 * d.below(customers.max(1));
+            // Flags, length, both kinds' keys and changeovers, the number of stamps, the last stamps.
+            let inside = [0, 17, 27, 28, 29, 30, 31, 39, 40, 49, 50, 53, 57, 58, 66, 67, 68, 76, 80, 84, 85, 597];
+            (start + d.pick(&inside) + d.below(4)).min(TABLE - 1)
+        }
+        2 | 3 => d.below(82),
+        _ => d.below(total.clamp(1, TABLE)),
+    };
+    table[at] = match d.below(6) {
+        0 => 0,
+        1 => d.draw() as u8,
+        2 => table[at].wrapping_add(1),
+        3 => table[at].wrapping_sub(1),
+        4 => d.pick(&[1, 2, 9, 10, 64, 65]),
+        _ => table[at] ^ (1 << d.below(8)),
+    };
+}
+
+impl Maker {
+    fn push(&mut self, call: Call) -> Answer {
+        let mut step = Step::plain(call);
+        if self.plan.wrong_buffers && !matches!(step.call, Call::Copy { .. }) {
+            if self.d.per_mille(4) {
+                step.lent = self.d.pick(&[TABLE - 1, TABLE + 1, 0, 82, TABLE + 8]);
+            }
+            if self.d.per_mille(3) && step.slot().is_some() {
+                step.session_off = self.d.pick(&[-1, 1]);
+            }
+        }
+        let answer = self.model.step(&step);
+        self.steps.push(step);
+        answer
+    }
+
+    fn bank(&self) -> Option<&Bank> {
+        self.model.bank.as_ref()
+    }
+
+    fn today(&self) -> u32 {
+        self.bank().map_or(941017, |b| b.day)
+    }
+
+    fn make(&mut self, from_nothing: bool) {
+        if from_nothing {
+            self.set_up();
+            for _ in 0..self.d.between(1, 3) {
+                self.add();
+            }
+        }
+        // One file alone, files one after the other, several at once, or mostly register calls.
+        let (files, at_once, registers) = match self.d.weighted(&[45, 30, 20, 5]) {
+            0 => (1, 1, 0),
+            1 => (self.d.between(2, 4), 1, 12),
+            2 => (self.d.between(2, 4), 3, 8),
+            _ => (1, 1, 70),
+        };
+        let mut files = files;
+        let mut budget = 60;
+        while budget > 0 && (files > 0 || !self.pending.is_empty()) {
+            budget -= 1;
+            if self.d.chance(registers) {
+                self.register();
+                continue;
+            }
+            if files > 0 && self.pending.len() < at_once && (self.pending.is_empty() || self.d.chance(40)) {
+                files -= 1;
+                self.open();
+                continue;
+            }
+            if self.plan.unopened && self.d.per_mille(3) {
+                let slot = self.slots + 5;
+                let room = self.room();
+                if self.d.chance(50) {
+                    self.push(Call::Read { slot, input: b"X\n".to_vec(), room });
+                } else {
+                    self.push(Call::End { slot, room });
+                }
+            }
+            if self.pending.is_empty() {
+                continue;
+            }
+            if self.plan.copies && self.d.per_mille(6) {
+                // The same file twice from here on: what one has accepted the other finds used.
+                let copied = self.d.below(self.pending.len());
+                let from = self.pending[copied].slot;
+                let to = self.slots;
+                self.slots += 1;
+                self.push(Call::Copy { from, to });
+                let copy = Pending { slot: to, ..self.pending[copied].clone() };
+                self.pending.push(copy);
+            }
+            let which = self.d.below(self.pending.len());
+            self.go_on(which);
+        }
+        // What is still open is read to its end or left.
+        while let Some(which) = self.pending.len().checked_sub(1) {
+            if self.d.chance(4) || self.steps.len() > 400 {
+                self.pending.pop();
+                continue;
+            }
+            self.go_on(which);
+        }
+    }
+
+    // The register calls.
+
+    fn set_up(&mut self) {
+        let d = &mut self.d;
+        let today = generate_day(d);
+        let mut bank = who("003701234567", d.pick(&["", "EAST"])).to_vec();
+        let mut software = padded::<16>("FRONT 4").to_vec();
+        let mut floor = d.pick(&[110, 120]);
+        let mut holidays = generate_holidays(d, today);
+        match d.below(24) {
+            0 => bank[..17].fill(b' '),
+            1 => bank[d.clone().below(25)] = d.pick(b"a#\x00\xC4?"),
+            2 => software.fill(b' '),
+            3 => software[3] = b'b',
+            4 => floor = d.pick(&[0, 100, 111, 130, 119, 366]),
+            5 => holidays.push(d.pick(&[0, 10229, 990931, 941301, 1_000_101, 4_294_967_295])),
+            6 => holidays = vec![941020, 941020],
+            7 => holidays = vec![101, 991231],
+            8 => holidays = vec![991231, 101],
+            9 => holidays = (0..201).map(|i| shifted(900101, i)).collect(),
+            10 => holidays = (0..200).map(|i| shifted(900101, i)).collect(),
+            11 => {
+                bank.pop();
+            }
+            12 => software.push(b' '),
+            13 => {
+                holidays = vec![941020, 941019];
+                holidays.extend([10229].iter().take(d.below(2)));
+            }
+            14 => bank.push(b' '),
+            _ => (),
+        }
+        let (k, v) = (self.d.draw(), self.d.draw());
+        self.push(Call::SetUp { bank, software, floor, k, v, holidays });
+    }
+
+    /// Today for a call: mostly the table's day, sometimes later, seldom earlier or unreal.
+    fn some_today(&mut self, moving: usize) -> u32 {
+        let today = self.today();
+        match self.d.weighted(&[100 - moving, moving / 2, moving / 4 + 1, 2, 1]) {
+            0 => today,
+            1 => shifted(today, self.d.between(1, 3)),
+            2 => shifted(today, self.d.between(4, 12)),
+            3 => shifted(today, -self.d.between(1, 3)),
+            _ => self.d.pick(&[0, 10229, 990931, 941301, 1_000_101, u32::MAX]),
+        }
+    }
+
+    fn some_who(&mut self) -> Vec<u8> {
+        let known: Vec<[u8; 25]> = self.bank().map_or(Vec::new(), |b| b.customers.iter().map(|c| c.who).collect());
+        if !known.is_empty() && self.d.chance(85) {
+            return self.d.pick(&known).to_vec();
+        }
+        let mut name = who(self.d.pick(&IDENTITIES), self.d.pick(&QUALIFIERS)).to_vec();
+        match self.d.below(12) {
+            0 => name[..17].fill(b' '),
+            1 => name[self.d.clone().below(25)] = self.d.pick(b"a#\x00\xC4?"),
+            2 => {
+                name.pop();
+            }
+            3 => name.push(b' '),
+            _ => (),
+        }
+        name
+    }
+
+    /// Parts of a transport key with their check value, now and then wrong.
+    fn parts(&mut self) -> (u64, u64, u32) {
+        let (mut part1, mut part2) = (key(&mut self.d), key(&mut self.d));
+        let mut check = check_value(transport_key(part1, part2));
+        if self.d.chance(8) {
+            let bit = 1u64 << (8 * self.d.below(8));
+            if self.d.chance(50) {
+                part1 ^= bit;
+            } else {
+                part2 ^= bit;
+            }
+        }
+        if self.d.chance(8) {
+            check = match self.d.below(4) {
+                0 => check ^ 1,
+                1 => check | 0x0100_0000,
+                2 => check ^ 0x80_0000,
+                _ => self.d.draw() as u32,
+            };
+        }
+        (part1, part2, check)
+    }
+
+    fn add(&mut self) {
+        let today = self.some_today(25);
+        let known = self.bank().map_or(Vec::new(), |b| b.customers.iter().map(|c| c.who).collect::<Vec<_>>());
+        let mut name = self.some_who();
+        if self.d.chance(85) {
+            for _ in 0..9 {
+                if known.iter().any(|k| name == k[..]) {
+                    name = who(self.d.pick(&IDENTITIES), self.d.pick(&QUALIFIERS)).to_vec();
+                }
+            }
+        }
+        let (part1, part2, check) = self.parts();
+        let d = &mut self.d;
+        let odd = |d: &mut Dice, good: u32, bad: &[u32]| if d.chance(3) { d.pick(bad) } else { good };
+        let generation = d.below(10) as u32;
+        let generation = odd(d, generation, &[10, 255, u32::MAX]);
+        let types = d.pick(&[0xFFFF, 0xFFFF, 0, 1, 0x8000, 0x7FFF]);
+        let types = odd(d, types, &[0x10000, u32::MAX]);
+        let agreed = d.chance(85) as u32;
+        let agreed = odd(d, agreed, &[2, 256, u32::MAX]);
+        let leave = d.chance(70) as u32;
+        let leave = odd(d, leave, &[2, u32::MAX]);
+        let length_given = d.chance(70) as u32;
+        let length_given = odd(d, length_given, &[2, u32::MAX]);
+        let length = d.pick(&[1, 60, 30, 5]);
+        let length = if d.chance(7) { d.pick(&[0, 61, 256 + 30, u32::MAX]) } else { length };
+        self.push(Call::Add {
+            today,
+            who: name,
+            part1,
+            part2,
+            check,
+            generation,
+            types,
+            agreed,
+            leave,
+            length_given,
+            length,
+        });
+    }
+
+    fn enter(&mut self) {
+        let today = self.some_today(25);
+        let name = self.some_who();
+        let (part1, part2, check) = self.parts();
+        let held = self.bank().and_then(|b| b.find(&name).map(|at| b.customers[at].transport.generation));
+        let mut generation = next_generation(held.unwrap_or(0));
+        if self.d.chance(12) {
+            generation = match self.d.below(4) {
+                0 => held.unwrap_or(0),
+                1 => held.unwrap_or(0).wrapping_sub(1),
+                2 => 10,
+                _ => self.d.below(10) as u32,
+            };
+        }
+        self.push(Call::Enter { today, who: name, part1, part2, check, generation });
+    }
+
+    fn order(&mut self) {
+        let today = self.some_today(25);
+        let name = self.some_who();
+        let clock = self.clock();
+        self.push(Call::Order { today, who: name, clock });
+    }
+
+    fn register(&mut self) {
+        match self.d.weighted(&[35, 30, 33, 2]) {
+            0 => self.add(),
+            1 => self.enter(),
+            2 => self.order(),
+            _ => self.set_up(),
+        }
+    }
+
+    fn clock(&mut self) -> u64 {
+        match self.d.below(8) {
+            0 => u64::MAX,
+            1 => u64::MAX - 1,
+            2 => 0,
+            _ => self.d.draw(),
+        }
+    }
+
+    fn room(&mut self) -> usize {
+        match self.d.below(100) {
+            0 => self.d.pick(&[0, 316, 237, 1]),
+            1..=9 => 317 + self.d.below(40),
+            _ => 317,
+        }
+    }
+
+    // Files.
+
+    fn open(&mut self) {
+        let today = self.some_today(30);
+        let mut at = time(&mut self.d);
+        if self.d.chance(2) {
+            at = self.d.pick(&[240000, 6000, 60, 1_000_000, u32::MAX]);
+        }
+        let mut data_type = self.d.between(1, 16) as u32;
+        if self.d.chance(2) {
+            data_type = self.d.pick(&[0, 17, 32, u32::MAX]);
+        }
+        let clock = self.clock();
+        let mut slot = self.slots;
+        if slot > 0 && self.d.chance(6) {
+            // Over a session that is still open or finished.
+            slot = self.d.below(slot);
+            self.pending.retain(|p| p.slot != slot);
+        }
+        let answer = self.push(Call::Open { slot, today, time: at, data_type, clock });
+        if answer.refusal != 0 && !self.d.chance(5) {
+            return;
+        }
+        self.slots = self.slots.max(slot + 1);
+        let customers = self.bank().map_or(0, |b| b.customers.len());
+        let d = &mut self.d;
+        self.pending.push(Pending {
+            slot,
+            customer: (customers > 0).then(|| d.below(customers)),
+            items_left: d.weighted(&[6, 26, 30, 22, 11, 5]),
+            started: false,
+            unread: Vec::new(),
+            injected: Vec::new(),
+            line_ends: d.weighted(&[55, 25, 20]),
+            cut: d.weighted(&[40, 30, 20, 4, 6]),
+            last_frame: Vec::new(),
+            tour: false,
+        });
+        if let Some(p) = self.pending.last_mut().filter(|_| self.d.chance(3)) {
+            p.tour = true;
+            p.items_left = 6;
+        }
+    }
+
+    /// Reads some more of a file, or ends it.
+    fn go_on(&mut self, which: usize) {
+        let mut p = self.pending.swap_remove(which);
+        while p.items_left > 0 || !p.started {
+            let short = p.unread.len() < 200 && !p.tour && self.d.chance(30);
+            if !p.unread.is_empty() && !short {
+                break;
+            }
+            if !p.started {
+                p.started = true;
+                self.write_first(&mut p);
+            } else {
+                p.items_left -= 1;
+                self.write_item(&mut p);
+            }
+            if p.items_left == 0 {
+                self.finish_writing(&mut p);
+            }
+        }
+        if p.unread.is_empty() && p.injected.is_empty() {
+            self.end(&mut p);
+            return;
+        }
+        let due: Vec<Call> = p.injected.iter().filter(|(n, _)| *n == 0).map(|(_, c)| c.clone()).collect();
+        p.injected.retain(|(n, _)| *n > 0);
+        for call in due {
+            self.push(call);
+        }
+        let most = p.injected.iter().map(|(n, _)| *n).min().unwrap_or(usize::MAX).min(p.unread.len());
+        let wanted = match p.cut {
+            0 => most,
+            1 => self.d.below(2 * most + 1),
+            2 => self.d.below(120),
+            3 => 1,
+            _ => self.d.below(10),
+        };
+        let n = wanted.min(most);
+        let room = self.room();
+        let input = p.unread[..n].to_vec();
+        let answer = self.push(Call::Read { slot: p.slot, input, room });
+        p.unread.drain(..answer.taken);
+        for (left, _) in &mut p.injected {
+            *left -= answer.taken;
+        }
+        // A file of small reads grows long; the rest of it is read in large ones.
+        if p.cut >= 2 && self.steps.len() > 150 {
+            p.cut = 0;
+        }
+        if answer.finished || (answer.refusal == 3 && self.d.chance(50)) {
+            // Once closed, nothing more is taken.
+            if self.d.chance(10) {
+                let room = self.room();
+                self.push(Call::Read { slot: p.slot, input: b"MORE\n".to_vec(), room });
+            }
+            if self.d.chance(10) {
+                let room = self.room();
+                self.push(Call::End { slot: p.slot, room });
+            }
+            return;
+        }
+        if answer.refusal == 2 && self.bank().is_none() && self.d.chance(70) {
+            return;
+        }
+        if answer.refusal == 3 && self.d.chance(30) {
+            return;
+        }
+        self.pending.push(p);
+    }
+
+    fn end(&mut self, p: &mut Pending) {
+        for _ in 0..6 {
+            let room = self.room();
+            let answer = self.push(Call::End { slot: p.slot, room });
+            if answer.finished {
+                break;
+            }
+            if answer.refusal == 0 && self.d.chance(20) {
+                // A read after an end, or another day, between two end calls.
+                if self.d.chance(50) {
+                    self.push(Call::Read { slot: p.slot, input: b"X".to_vec(), room: 317 });
+                } else {
+                    self.register();
+                }
+            }
+        }
+        if self.d.chance(8) {
+            let room = self.room();
+            self.push(Call::End { slot: p.slot, room });
+        }
+    }
+
+    /// Ends a record: LF, CR LF, now and then CR CR LF.
+    fn line(&mut self, p: &Pending, out: &mut Vec<u8>, record: &[u8]) {
+        out.extend_from_slice(record);
+        // A record that ends in CR keeps it only behind another CR.
+        let cr = record.last() == Some(&b'\r')
+            || match p.line_ends {
+                0 => false,
+                1 => true,
+                _ => self.d.chance(50),
+            };
+        if cr {
+            out.push(b'\r');
+        }
+        if self.d.per_mille(6) {
+            out.push(b'\r');
+        }
+        out.push(b'\n');
+    }
+
+    fn junk(&mut self) -> Vec<u8> {
+        let d = &mut self.d;
+        match d.below(12) {
+            0 => Vec::new(),
+            1 => vec![b' '; d.below(90)],
+            2 => b"HELLO".to_vec(),
+            3 => b">>esi161120".to_vec(),
+            4 => b">>PTE317120".to_vec(),
+            5 => b"\r".to_vec(),
+            6 => b" >>SUO128120".to_vec(),
+            7 => b">>SU".to_vec(),
+            8 => b">>VAR161120".to_vec(),
+            9 => b">>VAR".to_vec(),
+            10 => b"\xFF\x00\x1A".to_vec(),
+            _ => b"'''EOF".to_vec(),
+        }
+    }
+
+    fn write_first(&mut self, p: &mut Pending) {
+        let mut out = Vec::new();
+        match self.d.weighted(&[3, 4, 93]) {
+            0 if self.d.chance(60) => {
+                // An empty file, or one with nothing before its frames.
+                p.items_left = 0;
+            }
+            0 => (),
+            1 => {
+                let record = self.junk();
+                self.line(p, &mut out, &record);
+            }
+            _ => {
+                let mut wish = self.wish(p.customer);
+                let damaged = self.d.chance(20);
+                let harms = if damaged { self.d.pick(&[1, 1, 1, 2, 3]) } else { 0 };
+                for _ in 0..harms {
+                    if self.d.chance(50) {
+                        self.harm_wish(&mut wish, p.customer, false);
+                    }
+                }
+                let mut message = customer::esi(&wish);
+                if damaged && self.d.chance(60) {
+                    for _ in 0..self.d.pick(&[1, 1, 2]) {
+                        self.harm_message(Kind::Esi, &mut message, wish.working_key);
+                    }
+                }
+                let odd = if damaged { 40 } else { 5 };
+                for record in self.lay(&message, odd) {
+                    self.line(p, &mut out, &record);
+                }
+            }
+        }
+        p.unread.extend(out);
+    }
+
+    /// The last bytes: perhaps without the last LF, or cut anywhere.
+    fn finish_writing(&mut self, p: &mut Pending) {
+        if p.unread.is_empty() {
+            return;
+        }
+        match self.d.weighted(&[66, 18, 3, 13]) {
+            0 => (),
+            1 => {
+                p.unread.pop();
+                if p.unread.last() == Some(&b'\r') && self.d.chance(60) {
+                    p.unread.pop();
+                }
+            }
+            2 => {
+                p.unread.pop();
+                p.unread.push(b'\r');
+            }
+            _ => {
+                let n = self.d.below(p.unread.len() + 1);
+                p.unread.truncate(n);
+            }
+        }
+        let n = p.unread.len();
+        p.injected.retain(|(at, _)| *at <= n);
+    }
+
+    /// A frame, records outside, or something that should not be there.
+    fn write_item(&mut self, p: &mut Pending) {
+        let mut out = Vec::new();
+        let weights = if p.tour { [1, 0, 0, 0, 0, 0] } else { [76, 8, 4, 5, 4, 3] };
+        match self.d.weighted(&weights) {
+            0 => return self.write_frame(p),
+            1 => {
+                for _ in 0..self.d.between(1, 4) {
+                    let record = self.junk();
+                    self.line(p, &mut out, &record);
+                }
+            }
+            2 => {
+                let wish = self.wish(p.customer);
+                let message = customer::var(&wish, &[]);
+                for record in self.lay(&message, 20) {
+                    self.line(p, &mut out, &record);
+                }
+            }
+            3 => {
+                // The last frame once more: its stamp is used.
+                out.extend(p.last_frame.clone());
+            }
+            4 => {
+                let wish = self.wish(p.customer);
+                let mut message = customer::esi(&wish);
+                message.truncate(self.d.pick(&[5, 8, 11, 80, 161]));
+                self.line(p, &mut out, &message);
+            }
+            _ => {
+                let wish = self.wish(p.customer);
+                let message = customer::suo(&wish);
+                for record in self.lay(&message, 20) {
+                    self.line(p, &mut out, &record);
+                }
+            }
+        }
+        p.unread.extend(out);
+    }
+
+    fn data_record(&mut self) -> Vec<u8> {
+        let d = &mut self.d;
+        let mut r: Vec<u8> = Vec::new();
+        let letters: &[u8] = match d.below(4) {
+            0 => b"ABCXYZ0189 %()*+,-./:;<=>",
+            1 => b"abcxyz MATTI",
+            2 => b"AB#$@!\xC4\xD6\xE4\x00\t\x7F?&[]{}^_`\"'",
+            _ => b"0123456789 ",
+        };
+        let n = match d.below(6) {
+            0 => d.below(4),
+            1 => 8 * d.below(8),
+            2 => 80,
+            _ => d.below(90),
+        };
+        r.extend((0..n).map(|_| d.pick(letters)));
+        match d.below(15) {
+            11 if d.chance(20) => {
+                // A long run of blanks, at the end of the record or not.
+                r.extend(vec![b' '; 300 + d.below(3000)]);
+                r.extend(vec![b'.'; d.below(2)]);
+            }
+            0 => r.extend(vec![b' '; d.below(20)]),
+            1 => r.push(b'#'),
+            2 => r.extend(b"# "),
+            3 => r.extend(b" #  "),
+            4 => r = vec![b' '; d.below(40)],
+            5 => r.clear(),
+            6 => r = b">>var161120".to_vec(),
+            7 => r = b">>VA".to_vec(),
+            8 => r.extend(b"\r"),
+            9 => r.extend(b" \r "),
+            10 => r.insert(0, b'\r'),
+            _ => (),
+        }
+        r
+    }
+
+    /// A frame as a whole, with faults more often than not.
+    fn write_frame(&mut self, p: &mut Pending) {
+        let customer = if self.d.chance(80) {
+            p.customer
+        } else {
+            let n = self.bank().map_or(0, |b| b.customers.len());
+            (n > 0).then(|| self.d.below(n))
+        };
+        let mut wish = self.wish(customer);
+        let damaged = !p.tour && self.d.chance(45);
+        if let Some(c) = self.bank().and_then(|b| b.customers.get(customer?)).filter(|_| p.tour) {
+            wish.working = c.working.generation;
+            wish.working_key = c.working.key;
+            wish.transport = c.transport.generation;
+            wish.transport_key = c.transport.key;
+            wish.date = self.today();
+            wish.version = 120;
+            wish.request = if c.working.in_changeover(self.today()) { b'2' } else { b'1' };
+        }
+        let harms = if damaged { self.d.pick(&[0, 1, 1, 1, 2, 3]) } else { 0 };
+        for _ in 0..harms {
+            self.harm_wish(&mut wish, customer, true);
+        }
+        let mut records: Vec<Vec<u8>> = (0..self.d.between(1, 4)).map(|_| self.data_record()).collect();
+        if self.d.per_mille(8) {
+            records = (0..60).map(|_| self.data_record()).collect();
+        }
+        if self.d.chance(4) {
+            records = self.d.pick(&[vec![], vec![vec![]], vec![b"   ".to_vec(); 2]]);
+        }
+        let scenario = if !p.tour && self.d.chance(7) { self.d.between(1, 3) } else { 0 };
+        let injected = self.scenario(scenario, &mut wish, customer);
+        let mut suo = customer::suo(&wish);
+        let mut var = customer::var(&wish, &records);
+        if damaged && (harms == 0 || self.d.chance(40)) {
+            for _ in 0..self.d.pick(&[1, 1, 2]) {
+                match self.d.below(10) {
+                    0 | 1 => self.harm_message(Kind::Suo, &mut suo, 0),
+                    2 | 3 => self.harm_message(Kind::Var, &mut var, wish.working_key),
+                    4..=7 => self.harm_equality(&mut var, wish.working_key),
+                    8 => {
+                        let f = DIGEST.at + self.d.below(16);
+                        var[f] = if var[f] == b'0' { b'1' } else { b'0' };
+                        seal(&mut var, wish.working_key);
+                    }
+                    _ => records.push(b"EXTRA".to_vec()),
+                }
+            }
+        }
+        let odd = if damaged { 20 } else { 6 };
+        let mut out = Vec::new();
+        let shape = if p.tour { 0 } else { self.d.weighted(&[86, 8, 2, 2, 2]) };
+        if shape != 2 {
+            for record in self.lay(&suo, odd) {
+                self.line(p, &mut out, &record);
+            }
+        }
+        let middle = out.len();
+        for record in &records {
+            self.line(p, &mut out, record);
+        }
+        match shape {
+            // No VAR: the next SUO, an ESI or the file's end finds the frame open.
+            1 => (),
+            3 => {
+                let esi = customer::esi(&wish);
+                let n = self.d.pick(&[5, 9, 161]);
+                self.line(p, &mut out, &esi[..n]);
+            }
+            4 => {
+                let n = self.d.pick(&[5, 10, 11, 60, 128]);
+                self.line(p, &mut out, &suo[..n]);
+            }
+            _ => {
+                for record in self.lay(&var, odd) {
+                    self.line(p, &mut out, &record);
+                }
+            }
+        }
+        if let Some(call) = injected {
+            p.injected.push((p.unread.len() + middle, call));
+        }
+        p.last_frame = out.clone();
+        p.unread.extend(out);
+    }
+
+    /// Calls made between SUO's end and VAR (readings 41 and 42).
+    fn scenario(&mut self, which: i64, wish: &mut Wish, customer: Option<usize>) -> Option<Call> {
+        let today = self.today();
+        let (part1, part2) = (key(&mut self.d), key(&mut self.d));
+        let new_key = transport_key(part1, part2);
+        let check = check_value(new_key);
+        match which {
+            // The transport key SUO names is entered only after it.
+            1 => {
+                let c = self.bank()?.customers.get(customer?)?;
+                let generation = next_generation(c.transport.generation);
+                let name = c.who.to_vec();
+                wish.transport = generation;
+                wish.transport_key = new_key;
+                wish.date = today;
+                Some(Call::Enter { today, who: name, part1, part2, check, generation })
+            }
+            // A working key is ordered while the frame runs.
+            2 => {
+                let name = self.bank()?.customers.get(customer?)?.who.to_vec();
+                let clock = self.clock();
+                Some(Call::Order { today, who: name, clock })
+            }
+            // The sender is added while the frame runs.
+            3 => {
+                let name = who("LATECOMER", self.d.pick(&QUALIFIERS));
+                wish.sender = name;
+                wish.transport = 0;
+                wish.transport_key = new_key;
+                wish.working = 0;
+                wish.working_key = crate::keys::working_key_0(new_key);
+                wish.date = today;
+                Some(Call::Add {
+                    today,
+                    who: name.to_vec(),
+                    part1,
+                    part2,
+                    check,
+                    generation: 0,
+                    types: 0xFFFF,
+                    agreed: 1,
+                    leave: 1,
+                    length_given: 0,
+                    length: 0,
+                })
+            }
+            _ => None,
+        }
+    }
+
+    // Messages.
+
+    /// What a customer would write in good faith now.
+    fn wish(&mut self, customer: Option<usize>) -> Wish {
+        let known =
+            customer.and_then(|at| self.bank().and_then(|b| b.customers.get(at).map(|c| (b.clone_head(), c.clone()))));
+        let d = &mut self.d;
+        let number = d.pick(&[0, 1, 999, 500]);
+        let at = time(d);
+        let mut w = match &known {
+            Some((bank, c)) => Wish::of(bank, c, at, number),
+            None => {
+                let today = self.model.bank.as_ref().map_or(941017, |b| b.day);
+                let receiver = self.model.bank.as_ref().map_or(who("003701234567", ""), |b| b.bank);
+                Wish {
+                    version: 120,
+                    software: padded("X"),
+                    receiver,
+                    sender: who("NOBODY", ""),
+                    transport: 0,
+                    working: 0,
+                    transport_key: key(d),
+                    working_key: key(d),
+                    date: today,
+                    time: at,
+                    number,
+                    area: b'A',
+                    method: Method::Skh,
+                    request: b'0',
+                    one_time_key: 1,
+                }
+            }
+        };
+        w.software = padded(d.pick(&["KERMIT      3.01", "PANKSOFT 4.1", " .", "A"]));
+        if d.chance(30) {
+            w.date = shifted(w.date, -d.between(1, 6));
+        }
+        w.request = d.pick(b"000011122");
+        w.version = if d.chance(12) { 110 } else { 120 };
+        w.area = d.pick(b"SA");
+        w.method = d.pick(&[Method::Skh, Method::Skh, Method::Ske]);
+        w.one_time_key = key(d);
+        if let Some((bank, c)) = &known {
+            if d.chance(18) {
+                if let Some(prev) = &c.transport.previous {
+                    w.transport = prev.generation;
+                    w.transport_key = prev.key;
+                    within(d, &mut w, prev, bank.day);
+                }
+            }
+            if d.chance(25) {
+                if let Some(prev) = &c.working.previous {
+                    w.working = prev.generation;
+                    w.working_key = prev.key;
+                    within(d, &mut w, prev, bank.day);
+                }
+            }
+        }
+        w
+    }
+
+    fn harm_wish(&mut self, w: &mut Wish, customer: Option<usize>, batch: bool) {
+        let today = self.today();
+        let c = customer.and_then(|at| self.bank().and_then(|b| b.customers.get(at).cloned()));
+        let d = &mut self.d;
+        match d.below(if batch { 15 } else { 12 }) {
+            0 => w.date = shifted(today, -d.between(4, 11)),
+            1 => w.date = shifted(today, d.between(1, 3)),
+            2 => {
+                if let Some(s) = c.as_ref().filter(|c| !c.stamps.is_empty()).map(|c| d.pick(&c.stamps)) {
+                    w.date = s.date();
+                    w.time = (s.number / 1000 % 1_000_000) as u32;
+                    w.number = (s.number % 1000) as u32;
+                }
+            }
+            3 => {
+                w.transport = d.below(10) as u32;
+                if let Some(k) = c.as_ref().and_then(|c| c.transport.held(w.transport)) {
+                    w.transport_key = k;
+                }
+            }
+            4 => {
+                w.working = d.below(10) as u32;
+                if let Some(k) = c.as_ref().and_then(|c| c.working.held(w.working)) {
+                    w.working_key = k;
+                }
+            }
+            5 => {
+                if let Some(prev) = c.as_ref().and_then(|c| c.transport.previous.clone()) {
+                    w.transport = prev.generation;
+                    w.transport_key = prev.key;
+                    w.date = edge(d, &prev);
+                }
+            }
+            6 => {
+                if let Some(prev) = c.as_ref().and_then(|c| c.working.previous.clone()) {
+                    w.working = prev.generation;
+                    w.working_key = prev.key;
+                    w.date = edge(d, &prev);
+                }
+            }
+            7 => match d.below(4) {
+                0 => w.receiver = who("003701234568", ""),
+                1 => w.receiver[24] = b'X',
+                2 => w.receiver = [b' '; 25],
+                _ => w.receiver[17..].fill(b' '),
+            },
+            8 => match d.below(4) {
+                0 => w.sender = who("UNKNOWN", ""),
+                1 => w.sender = [b' '; 25],
+                _ => w.sender[17..].copy_from_slice(&padded::<8>(d.pick(&QUALIFIERS))),
+            },
+            9 => w.version = 110,
+            10 => w.working_key = key(d),
+            11 => {
+                w.transport = d.below(10) as u32;
+                w.working = d.below(10) as u32;
+            }
+            12 | 13 => {
+                let used: Vec<u64> = c.iter().flat_map(|c| c.stamps.iter().filter_map(|s| s.one_time_key)).collect();
+                if !used.is_empty() {
+                    w.one_time_key = d.pick(&used);
+                    if d.chance(20) {
+                        // The same but for parity: not the same key.
+                        w.one_time_key ^= 1 << (8 * d.below(8));
+                    }
+                }
+            }
+            _ => {
+                w.one_time_key = match d.below(4) {
+                    0 => 0,
+                    _ => w.one_time_key ^ (1 << (8 * d.below(8))),
+                }
+            }
+        }
+    }
+
+    /// Spoils one field's form or value, or the checksum; the rest is sealed again half the time.
+    fn harm_message(&mut self, kind: Kind, message: &mut [u8], working_key: u64) {
+        let d = &mut self.d;
+        let present: Vec<Field> = FIELDS.into_iter().filter(|f| f.end() <= kind.length()).collect();
+        match d.below(9) {
+            0..=3 => {
+                let f = d.pick(&present[2..]);
+                let at = f.at + d.below(f.len);
+                message[at] = match f.number {
+                    "3" | "5" | "10" | "11" | "12.1" | "12.2" | "12.3" => d.pick(b" A-:/\x00"),
+                    "15" | "16" | "17" if kind != Kind::Esi => d.pick(b" aGg/:@#"),
+                    "17" => d.pick(b" aGg/:@#"),
+                    "18" => d.pick(b" 3aA#\xFF"),
+                    _ => d.pick(b"az#!\"$&'?@[_~\x00\t\r\x7F\xC4\xFF"),
+                };
+            }
+            4..=6 => {
+                let f = d.pick(&present[2..]);
+                let other: &[u8] = match f.number {
+                    "3" => d.pick(&[b"100", b"130", b"119", b"000"]),
+                    "4" => d.pick(&[b"K", b"E", b"0"]),
+                    "5" => d.pick(&[b"1001", b"0001"]),
+                    "6" => b"                ",
+                    "7" if kind == Kind::Suo => d.pick(&[b"SMH", b"SKX", b"   "]),
+                    "7" => d.pick(&[b"SKH", b"SKE", b"   "]),
+                    "12.1" => d.pick(&[b"010229", b"991301", b"990001", b"990100", b"000230", b"941131"]),
+                    "12.2" => d.pick(&[b"240000", b"236000", b"235960"]),
+                    "13" => d.pick(&[b"X", b"0"]),
+                    "14" => d.pick(&[b"        1", b"0        ", b"000000000"]),
+                    "15" | "16" if kind == Kind::Esi => d.pick(&[b"0000000000000000", b"               A"]),
+                    "18" => d.pick(&[b"3", b" ", b"9"]),
+                    _ => return,
+                };
+                put(message, f, other);
+            }
+            7 => {
+                if kind == Kind::Suo {
+                    return;
+                }
+                let at = CHECKSUM.at + d.below(16);
+                message[at] = if message[at] == b'0' { b'1' } else { b'0' };
+                return;
+            }
+            _ => {
+                if kind == Kind::Esi && d.chance(30) {
+                    put(message, AREA, b"S");
+                } else {
+                    put(message, AREA, b" ");
+                }
+            }
+        }
+        if kind != Kind::Suo && d.chance(50) {
+            let sum_was_harmed = !CHECKSUM.of(message).iter().all(u8::is_ascii_hexdigit);
+            if !sum_was_harmed {
+                seal(message, working_key);
+            }
+        }
+    }
+
+    /// Makes VAR differ from SUO in a good value (1026), sealed again.
+    fn harm_equality(&mut self, var: &mut [u8], working_key: u64) {
+        let d = &mut self.d;
+        let f = d.pick(&COMPARED);
+        let digit = |b: u8| if b == b'9' { b'0' } else { b + 1 };
+        match f.number {
+            "3" => {
+                let other: &[u8] = if VERSION.of(var) == b"120" { b"110" } else { b"120" };
+                put(var, VERSION, other);
+            }
+            "8" | "9" => {
+                let at = f.at + d.below(25);
+                var[at] = if var[at] == b'Z' { b'Y' } else { b'Z' };
+            }
+            "15" => {
+                let other = hex16(d.draw());
+                put(var, ONE_TIME_KEY, &other);
+            }
+            "10" | "11" => var[f.at] = digit(var[f.at]),
+            "13" => var[f.at] = if var[f.at] == b'S' { b'A' } else { b'S' },
+            _ => match d.below(3) {
+                0 => put(var, DATE, b"941014"),
+                1 => put(var, TIME, b"123456"),
+                _ => var[NUMBER.at + 2] = digit(var[NUMBER.at + 2]),
+            },
+        }
+        if d.chance(85) {
+            seal(var, working_key);
+        }
+    }
+
+    /// Lays a message out as records; oddly with so many chances in a hundred.
+    fn lay(&mut self, message: &[u8], odd: usize) -> Vec<Vec<u8>> {
+        let d = &mut self.d;
+        if !d.chance(odd + 15) {
+            return vec![message.to_vec()];
+        }
+        if !d.chance(100 * odd / (odd + 15)) {
+            // Shapes that are as good as one record.
+            return match d.below(4) {
+                0 => message.chunks(80).map(|c| c.to_vec()).collect(),
+                1 => pieces(d, message, 11),
+                2 => {
+                    let mut m = message.to_vec();
+                    m.extend(vec![b' '; 1 + d.below(60)]);
+                    vec![m]
+                }
+                _ => {
+                    let mut all: Vec<Vec<u8>> = message.chunks(80).map(|c| c.to_vec()).collect();
+                    if let Some(last) = all.last_mut() {
+                        last.resize(80, b' ');
+                    }
+                    all
+                }
+            };
+        }
+        match d.below(9) {
+            0 => {
+                let mut m = message.to_vec();
+                m.extend(vec![b' '; d.below(4)]);
+                m.push(d.pick(b"\r\tX\x00#."));
+                m.extend(vec![b' '; d.below(3)]);
+                vec![m]
+            }
+            1 => {
+                let mut m = message.to_vec();
+                put(&mut m, LENGTH, d.pick(&[b"16A", b"   ", b"1 1", b"a61", b"-61", b"12\xFF"]));
+                d.pick(&[vec![m.clone()], m.chunks(80).map(|c| c.to_vec()).collect()])
+            }
+            2 => {
+                let mut m = message.to_vec();
+                put(&mut m, LENGTH, d.pick(&[b"160", b"162", b"128", b"161", b"237", b"000", b"317"]));
+                d.pick(&[vec![m.clone()], m.chunks(80).map(|c| c.to_vec()).collect()])
+            }
+            3 => {
+                let n = 5 + d.below(6);
+                d.pick(&[vec![message[..n].to_vec()], vec![message[..n].to_vec(), message[n..].to_vec()]])
+            }
+            4 => pieces(d, message, 5),
+            5 => {
+                // Blanks lost at the ends of pieces: the message shifts.
+                let mut all = pieces(d, message, 11);
+                for piece in &mut all {
+                    while piece.len() > 11 && piece.last() == Some(&b' ') {
+                        piece.pop();
+                    }
+                }
+                all
+            }
+            6 => {
+                let n = message.len() - 1 - d.below(20);
+                vec![message[..n].to_vec()]
+            }
+            7 => vec![message.to_vec(), vec![b' '; d.below(30)]],
+            _ => {
+                // A piece that begins like a message of its own.
+                let mut m = message.to_vec();
+                if d.chance(50) {
+                    let start: &[u8] = d.pick(&[b">>ESI" as &[u8], b">>SUO", b">>VAR"]);
+                    put(&mut m, Field { at: 16, len: 5, ..SOFTWARE }, start);
+                }
+                vec![m[..16].to_vec(), m[16..].to_vec()]
+            }
+        }
+    }
+}
+
+impl Bank {
+    /// The bank without its customers, for what a customer has to know of it.
+    fn clone_head(&self) -> Bank {
+        Bank {
+            day: self.day,
+            bank: self.bank,
+            software: self.software,
+            floor: self.floor,
+            k: 0,
+            v: 0,
+            holidays: Vec::new(),
+            customers: Vec::new(),
+        }
+    }
+}
+
+/// Moves a stamp's date into a changeover, mostly.
+fn within(d: &mut Dice, w: &mut Wish, prev: &Previous, today: u32) {
+    if d.chance(80) && day(w.date) < day(prev.first) {
+        w.date = prev.first;
+    }
+    if d.chance(80) && day(w.date) > day(prev.last) {
+        w.date = prev.last;
+    }
+    if d.chance(90) && day(w.date) > day(today) {
+        w.date = today;
+    }
+}
+
+/// A date at an edge of a changeover.
+fn edge(d: &mut Dice, prev: &Previous) -> u32 {
+    match d.below(5) {
+        0 => shifted(prev.first, -1),
+        1 => prev.first,
+        2 | 3 => prev.last,
+        _ => shifted(prev.last, 1),
+    }
+}
+
+/// Random pieces, the first of at least `first` characters, some of them empty.
+fn pieces(d: &mut Dice, message: &[u8], first: usize) -> Vec<Vec<u8>> {
+    let mut out = Vec::new();
+    let mut at = (first + d.below(60)).min(message.len());
+    out.push(message[..at].to_vec());
+    while at < message.len() {
+        if d.chance(10) {
+            out.push(Vec::new());
+        }
+        let n = (1 + d.below(80)).min(message.len() - at);
+        out.push(message[at..at + n].to_vec());
+        at += n;
+    }
+    out
+}

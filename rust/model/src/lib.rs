@@ -1,0 +1,22 @@
+//! A second, independent model of the receiving front end: document 01 worked out on whole
+//! records held in memory. It shares no code with the front end it is compared with.
+#![forbid(unsafe_code)]
+
+pub mod bank;
+pub mod calendar;
+pub mod case;
+pub mod checks;
+pub mod count;
+pub mod customer;
+pub mod des;
+pub mod fields;
+pub mod file;
+pub mod generate;
+pub mod keys;
+pub mod mac;
+pub mod reply;
+pub mod size;
+pub mod together;
+
+pub use bank::{set_up, Bank, Customer, Keys, Previous, Stamp, TABLE};
+pub use file::{end, read, Answer, File};
