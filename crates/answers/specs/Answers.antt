@@ -11,7 +11,7 @@ use Rattle.table.specs.Table.{Table}
 use Rattle.table.specs.Named.{named}
 use Rattle.message.specs.Fields.{senderOf, transportGenerationOf, workingGenerationOf}
 use Rattle.verdict.specs.declared.Outcome.{Outcome}
-use Rattle.reply.specs.Codes.{codeIn, codes}
+use Rattle.notice.specs.Codes.{codeIn, codes}
 use Rattle.reply.specs.declared.Answering.{Answering}
 use Rattle.answers.specs.declared.Opening.{Opening}
 

@@ -56,7 +56,7 @@ pub fn verdict_answer(
     let enclosed = out.enclosed;
     reply::Answering {
         pte,
-        bare: reply::is_bare(out.code),
+        bare: notice::is_bare(out.code),
         code: out.code,
         field: out.field,
         time: o.time,

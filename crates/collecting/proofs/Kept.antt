@@ -4,11 +4,11 @@ use mathlib.Core.Path.{_≡_, refl, sym, ap, _∙_}
 use mathlib.Core.Bool.{Bool, true, false}
 use mathlib.Core.List.{List, [], _∷_}
 use Prim.Native.Nat.{ℕ, zero, suc, _+_, _-_, _≤_, _<_, min}
-use native.Mathlib.Nat.{zero-min, min-zero, suc-min-suc, min-le-left, min-le-right, le-trans}
+use native.Mathlib.Nat.{zero-min, min-zero, suc-min-suc, min-le-left, le-trans}
 use native.Mathlib.Omega.{arith}
 use borrow.Author.Tests.{lt-ltb, le-ltb, eq-eqb, ne-eqb}
 use lib.Dec.{eqb, ltb}
-use lib.ListN.{length, take, drop, length-take, length-drop, drop-of-length-le}
+use lib.ListN.{length, take, drop, length-take, drop-of-length-le}
 use lib.Seq.{take-take, take-all}
 use Rattle.ground.specs.Choice.{both, fails, pick}
 use Rattle.ground.specs.Lists.{all, part}
@@ -18,7 +18,6 @@ use Rattle.text.specs.Numbers.{decimal}
 use Rattle.splices.proofs.Splice.{take-drop}
 use Rattle.message.specs.Layout.{layoutLength}
 use Rattle.message.specs.declared.Kind.{Kind}
-use Rattle.verdict.specs.declared.Collected.{Collected}
 use Rattle.whole.specs.Messages.{aloneOf}
 use Rattle.session.specs.Events.{held, collectedBy}
 use Rattle.session.specs.declared.Gathered.{Gathered}

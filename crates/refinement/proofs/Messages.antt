@@ -18,7 +18,7 @@ use Rattle.message.specs.declared.Kind.the-variants.{Esi, Suo, Var}
 use Rattle.verdict.specs.Outcomes.{esiOutcome, esiTable, esiLeaves, frameOutcome, frameTable, frameLeaves}
 use Rattle.verdict.specs.declared.Collected.{Collected}
 use Rattle.verdict.specs.declared.Outcome.{Outcome}
-use Rattle.reply.specs.Codes.{codeIn, codes}
+use Rattle.notice.specs.Codes.{codeIn, codes}
 use Rattle.reply.specs.declared.Answering.{Answering}
 use Rattle.answers.specs.Answers.{bareAnswer, verdictAnswer}
 use Rattle.answers.specs.declared.Opening.{Opening}

@@ -10,7 +10,7 @@ use Rattle.text.specs.Numbers.{decimalDigits}
 use Rattle.text.specs.Letters.{letters}
 use Rattle.changeover.specs.declared.Key.the-variants.{Missing}
 use Rattle.message.specs.Layout.{nameIn}
-use Rattle.reply.specs.Codes.{codeIn, fieldName, textOf}
+use Rattle.notice.specs.Codes.{codeIn, fieldName, textOf}
 use Rattle.reply.specs.Reply.{clockText, noticeOf, hexOr, sealedFlag, opening, bareBody, head, checksumKey, enclosedKey, replyOf}
 use Rattle.reply.specs.declared.Answering.{Answering}
 

@@ -21,11 +21,11 @@ use Rattle.changeover.specs.declared.Key.{Key}
 use Rattle.changeover.specs.declared.Key.the-variants.{Missing, Is}
 use Rattle.message.specs.Layout.{fieldText, offsetIn, widthIn}
 use Rattle.message.specs.Fields.{receiverOf, senderOf, stampTextOf}
-use Rattle.reply.specs.Codes.{codeIn, codes}
+use Rattle.notice.specs.Codes.{codeIn, codes}
 use Rattle.reply.specs.Reply.{hexOr, sealedFlag, opening, fullBody, bareBody, head, summed, checksumKey, enclosedKey, noticeOf, replyOf, replyLength, replied}
 use Rattle.reply.specs.declared.Answering.{Answering}
 use Rattle.reply.proofs.Keys.{hex-or-length, flag-length}
-use Rattle.reply.proofs.Widths.{pick-length, part-length, opening-length, bare-length, full-length, notice-length}
+use Rattle.reply.proofs.Widths.{pick-length, part-length, tag-length, opening-length, bare-length, full-length, notice-length}
 
 -- ---- lengths
 
@@ -64,10 +64,10 @@ between x v y l at n e f g =
     ap (λ (r : List ℕ). take n (drop at r)) e ∙ ap (take n) (drop-at x (v ++ y) at f) ∙ take-at v y n g
 
 -- what comes after the checksum
-abbrev rest : Answering → List ℕ
+abbrev pub rest : Answering → List ℕ
 rest a = sealedFlag (enclosedKey a) ++ (hexOr (enclosedKey a) ++ (noticeOf a ++ pick (a .pte) (replicate 80 blank) []))
 
-reply-split : (a : Answering) → replyOf a ≡ head a ++ (hexOr (checksumKey a (head a)) ++ rest a)
+pub reply-split : (a : Answering) → replyOf a ≡ head a ++ (hexOr (checksumKey a (head a)) ++ rest a)
 unfolding replyOf
 reply-split a = simp append-assoc
 
@@ -75,17 +75,11 @@ reply-split a = simp append-assoc
 abbrev tag : Answering → List ℕ
 tag a = pick (a .pte) (letters ">>PTE317") (letters ">>ESI237") ++ letters "120"
 
-tag-length : (a : Answering) → length (tag a) ≡ 11
-unfolding letters
-tag-length a =
-    length-append (pick (a .pte) (letters ">>PTE317") (letters ">>ESI237")) (letters "120")
-    ∙ ap (λ (n : ℕ). n + 3) (pick-length (a .pte) (letters ">>PTE317") (letters ">>ESI237") 8 refl refl)
-
 -- K or E
-abbrev success : Answering → List ℕ
+abbrev pub success : Answering → List ℕ
 success a = pick (codeIn (a .code) codes .accepted) (letters "K") (letters "E")
 
-success-length : (a : Answering) → length (success a) ≡ 1
+pub success-length : (a : Answering) → length (success a) ≡ 1
 unfolding letters
 success-length a = pick-length (codeIn (a .code) codes .accepted) (letters "K") (letters "E") 1 refl refl
 
@@ -95,7 +89,7 @@ unfolding head opening
 opened a = reply-split a ∙ simp append-assoc
 
 pub success-is : (a : Answering) → part 11 1 (replyOf a) ≡ success a
-success-is a = between (tag a) (success a) _ (replyOf a) 11 1 (opened a) (tag-length a) (success-length a)
+success-is a = between (tag a) (success a) _ (replyOf a) 11 1 (opened a) (tag-length (a .pte)) (success-length a)
 
 only-k : (t : Bool) → pick t (letters "K") (letters "E") ≡ letters "K" → t ≡ true
 unfolding pick letters

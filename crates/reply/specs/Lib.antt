@@ -1,4 +1,3 @@
 -- What the contracts of `reply` cite.
-pub mod Codes
 pub mod Reply
 pub mod Putting

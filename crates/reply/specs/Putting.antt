@@ -1,13 +1,14 @@
--- What the writers of a reply's parts leave in the room, and where the tables of codes and fields are looked up.
+-- What the writers of a reply's parts leave in the room.
 -- Assumes nothing.
-use Prim.Native.Nat.{ℕ, suc, _+_}
+use Prim.Native.Nat.{ℕ, _+_}
 use mathlib.Core.Path.{_≡_}
-use mathlib.Core.List.{List, [], _∷_, _++_, map}
-use lib.Dec.{eqb}
+use mathlib.Core.Bool.{Bool}
+use mathlib.Core.List.{List, _++_}
 use lib.ListN.{length, take, drop}
 use Rattle.ground.specs.Choice.{pick}
-use Rattle.message.specs.Layout.{fields}
-use Rattle.reply.specs.Codes.{codes, groups}
+use Rattle.text.specs.Letters.{letters}
+use Rattle.text.specs.Numbers.{decimalDigits}
+use Rattle.notice.specs.Codes.{codeIn, codes}
 
 -- l with v in the place of as many characters from `at` on
 unfoldable pub splice : ℕ → List ℕ → List ℕ → List ℕ
@@ -18,13 +19,10 @@ pub record Put (at : ℕ) (v room later : List ℕ) (next : ℕ) : Type 0 where
   pub place : next ≡ at + length v
   pub written : later ≡ splice at v room
 
--- the place of the first n, or the length where there is none
-unfoldable pub placeIn : ℕ → List ℕ → ℕ
-placeIn n [] = 0
-placeIn n (x ∷ l) = pick (eqb x n) 0 (suc (placeIn n l))
-
-abbrev pub codeNumbers : List ℕ
-codeNumbers = map (λ c. c .code) codes
-
-abbrev pub fieldNumbers : List ℕ
-fieldNumbers = map (λ f. f .number) (fields ++ groups)
+-- the first five fields
+abbrev pub marks : Bool → ℕ → List ℕ
+marks pte code =
+    pick pte (letters ">>PTE317") (letters ">>ESI237") ++
+    letters "120" ++
+    pick (codeIn code codes .accepted) (letters "K") (letters "E") ++
+    decimalDigits 4 code

@@ -16,7 +16,7 @@ use Rattle.changeover.specs.declared.Key.{Key}
 use Rattle.changeover.specs.declared.Key.the-variants.{Missing, Is}
 use Rattle.message.specs.Layout.{fieldText}
 use Rattle.message.specs.Fields.{receiverOf, senderOf, stampTextOf}
-use Rattle.reply.specs.Codes.{codeIn, codes, textOf}
+use Rattle.notice.specs.Codes.{codeIn, codes, textOf}
 use Rattle.reply.specs.declared.Answering.{Answering}
 
 -- the time given at opening, hhmmss, as HH:MM:SS

@@ -1,18 +1,16 @@
 // The bank's replies, ESI and PTE, composed into lent room.
 ghost use mathlib.Core.Path.{_≡_};
 ghost use mathlib.Core.List.{[], _++_};
-ghost use Prim.Native.Nat.{_+_, _%_, _<_, _≤_};
+ghost use Prim.Native.Nat.{_+_, _%_, _≤_};
 ghost use lib.ListN.{length, take, replicate};
 ghost use Rattle.ground.specs.Choice.{pick};
+ghost use Rattle.ground.specs.Lists.{part};
 ghost use Rattle.text.specs.Characters.{blank};
 ghost use Rattle.text.specs.Numbers.{decimalDigits};
 ghost use Rattle.text.specs.Letters.{letters};
 ghost use Rattle.changeover.specs.declared.Key.the-variants.{Is};
-ghost use Rattle.reply.specs.Codes.{codeIn, codes, fieldName, textOf};
 ghost use Rattle.reply.specs.Reply.{clockText, noticeOf, hexOr, sealed, sealedFlag, opening, fullBody, bareBody, head, checksumKey, enclosedKey, replyOf, replyLength, replied, writtenLength};
-ghost use Rattle.reply.specs.Putting.{Put, placeIn, codeNumbers, fieldNumbers};
-
-mod tables;
+ghost use Rattle.reply.specs.Putting.{Put, marks};
 
 // What a reply answers: ESI or PTE, bare or full, code and field, the opening's time, the bank and its software, the message (a frame's
 // SUO) and the one that closed it (the VAR), the working key of the message's generation, its transport key, and the key to enclose.
@@ -29,53 +27,6 @@ pub struct Answering {
     pub working: changeover::Key,
     pub transport: changeover::Key,
     pub enclosed: changeover::Key,
-}
-
-// The place of a number in a table of numbers, or the table's length where it is not listed.
-fn place_of(numbers: &[u32], n: u32) -> usize
-    ensures { λ r. ⌜ r ≡ placeIn n (now (numbers .entry)) ⌝ }
-{
-    let mut i = 0;
-    while i < numbers.len() {
-        if numbers[i] == n {
-            return i;
-        }
-        i += 1;
-    }
-    i
-}
-
-fn code_place(code: u32) -> usize
-    ensures { λ r. ⌜ (r ≡ placeIn code codeNumbers) × (r < 29) ⌝ }
-{
-    place_of(&tables::CODES, code)
-}
-
-fn field_place(field: u32) -> usize
-    ensures { λ r. ⌜ (r ≡ placeIn field fieldNumbers) × (r < 29) ⌝ }
-{
-    place_of(&tables::FIELDS, field)
-}
-
-pub fn is_accepted(code: u32) -> bool
-    ensures { λ r. ⌜ r ≡ codeIn code codes .accepted ⌝ }
-{
-    let i = code_place(code);
-    tables::SUCCESS[i] == b'K'
-}
-
-pub fn is_bare(code: u32) -> bool
-    ensures { λ r. ⌜ r ≡ codeIn code codes .bare ⌝ }
-{
-    let i = code_place(code);
-    tables::FORMS[i] == b'B'
-}
-
-fn names_field(code: u32) -> bool
-    ensures { λ r. ⌜ r ≡ codeIn code codes .names ⌝ }
-{
-    let i = code_place(code);
-    tables::NAMING[i] == b'N'
 }
 
 // `src` written at a place, and the place after it. Each function below writes its part so, and gives the next place.
@@ -95,18 +46,6 @@ fn put_blanks(out: &mut [u8], at: usize, n: usize) -> usize
     let end = at + n;
     text::fill_blank(&mut out[at..end]);
     end
-}
-
-// The first of two texts of one length where the test holds, else the second.
-fn put_either(out: &mut [u8], at: usize, test: bool, yes: &[u8], otherwise: &[u8]) -> usize
-    requires { ⌜ (at + length (now yes) ≤ length (now out)) × (length (now otherwise) ≡ length (now yes)) ⌝ }
-    ensures { λ r. ⌜ Put at (pick test (now (yes .entry)) (now (otherwise .entry))) (now (out .entry)) (now (out .exit)) r ⌝ }
-    ensures { λ r. ⌜ r ≡ at + length (now (yes .entry)) ⌝ }
-{
-    if test {
-        return put(out, at, yes);
-    }
-    put(out, at, otherwise)
 }
 
 fn low_digit(x: u32) -> u8
@@ -146,20 +85,49 @@ fn clock(time: u32) -> [u8; 9]
     ]
 }
 
+// Fields 1 to 3.
+fn tag_of(pte: bool) -> [u8; 11]
+    ensures { λ r. ⌜ r ≡ pick pte (letters ">>PTE317") (letters ">>ESI237") ++ letters "120" ⌝ }
+{
+    if pte {
+        return *b">>PTE317120";
+    }
+    *b">>ESI237120"
+}
+
+// Fields 1 to 5.
+fn put_marks(out: &mut [u8], pte: bool, code: u32) -> usize
+    requires { ⌜ 16 ≤ length (now out) ⌝ }
+    ensures { λ r. ⌜ Put 0 (marks pte code) (now (out .entry)) (now (out .exit)) r ⌝ }
+    ensures { λ r. ⌜ r ≡ 16 ⌝ }
+{
+    let tag = tag_of(pte);
+    let success = notice::success(code);
+    let digits = four_digits(code);
+    let n = put(out, 0, &tag);
+    let n = put(out, n, &success);
+    put(out, n, &digits)
+}
+
 // Fields 1 to 7.
 fn put_opening(out: &mut [u8], a: Answering) -> usize
     requires { ⌜ 35 ≤ length (now out) ⌝ }
     ensures { λ r. ⌜ Put 0 (opening a) (now (out .entry)) (now (out .exit)) r ⌝ }
 {
     let software = a.software;
-    let accepted = is_accepted(a.code);
-    let code = four_digits(a.code);
-    let n = put_either(out, 0, a.pte, b">>PTE317", b">>ESI237");
-    let n = put(out, n, b"120");
-    let n = put_either(out, n, accepted, b"K", b"E");
-    let n = put(out, n, &code);
+    let n = put_marks(out, a.pte, a.code);
     let n = put(out, n, &software);
     put(out, n, b"SMH")
+}
+
+// The part of a message that starts at `from`.
+fn put_part(out: &mut [u8], at: usize, m: [u8; 161], from: usize, n: usize) -> usize
+    requires { ⌜ (at + n ≤ length (now out)) × (from + n ≤ 161) ⌝ }
+    ensures { λ r. ⌜ Put at (part from n m) (now (out .entry)) (now (out .exit)) r ⌝ }
+    ensures { λ r. ⌜ r ≡ at + n ⌝ }
+{
+    let end = from + n;
+    put(out, at, &m[from..end])
 }
 
 // Fields 8 to 16, of the message and of the one that closed it.
@@ -168,13 +136,13 @@ fn put_full(out: &mut [u8], at: usize, a: Answering) -> usize
     ensures { λ r. ⌜ Put at (fullBody a) (now (out .entry)) (now (out .exit)) r ⌝ }
 {
     let message = a.message;
-    let closing = a.closing;
-    let n = put(out, at, &message[60..85]);
-    let n = put(out, n, &message[35..60]);
-    let n = put(out, n, &message[85..103]);
+    let n = put_part(out, at, message, 60, 25);
+    let n = put_part(out, n, message, 35, 25);
+    let n = put_part(out, n, message, 85, 18);
     let n = put_blanks(out, n, 9);
-    let n = put(out, n, &message[112..128]);
-    put(out, n, &closing[128..144])
+    let n = put_part(out, n, message, 112, 16);
+    let closing = a.closing;
+    put_part(out, n, closing, 128, 16)
 }
 
 fn put_bare(out: &mut [u8], at: usize, a: Answering) -> usize
@@ -260,52 +228,15 @@ fn put_flag(out: &mut [u8], at: usize, key: changeover::Key) -> usize
     }
 }
 
-fn put_before(out: &mut [u8], at: usize, code: u32) -> usize
-    requires { ⌜ at + length (codeIn code codes .before) ≤ length (now out) ⌝ }
-    ensures { λ r. ⌜ Put at (codeIn code codes .before) (now (out .entry)) (now (out .exit)) r ⌝ }
-{
-    let i = code_place(code);
-    let text = tables::TEXTS[i];
-    let n = tables::LENGTHS[i];
-    put(out, at, &text[..n])
-}
-
-fn put_name(out: &mut [u8], at: usize, field: u32) -> usize
-    requires { ⌜ at + length (fieldName field) ≤ length (now out) ⌝ }
-    ensures { λ r. ⌜ Put at (fieldName field) (now (out .entry)) (now (out .exit)) r ⌝ }
-{
-    let i = field_place(field);
-    let name = tables::NAMES[i];
-    let n = tables::NAME_LENGTHS[i];
-    put(out, at, &name[..n])
-}
-
-// The text of a code: before the field's name, the name, and what stands after it in 1026.
-fn put_text(out: &mut [u8], at: usize, code: u32, field: u32) -> usize
-    requires { ⌜ at + 51 ≤ length (now out) ⌝ }
-    ensures { λ r. ⌜ Put at (textOf code field) (now (out .entry)) (now (out .exit)) r ⌝ }
-{
-    let n = put_before(out, at, code);
-    if !names_field(code) {
-        return n;
-    }
-    let n = put_name(out, n, field);
-    if code == 1026 {
-        return put(out, n, b": SUO-SANOMA <> VAR-SANOMA");
-    }
-    n
-}
-
 // ILMOITUS: the time, a blank, the text, and blanks up to its end.
 fn put_notice(out: &mut [u8], at: usize, a: Answering) -> usize
     requires { ⌜ at + 60 ≤ length (now out) ⌝ }
     ensures { λ r. ⌜ Put at (noticeOf a) (now (out .entry)) (now (out .exit)) r ⌝ }
 {
     let time = clock(a.time);
-    let end = at + 60;
+    let text = notice::text(a.code, a.field);
     let n = put(out, at, &time);
-    let n = put_text(out, n, a.code, a.field);
-    put_blanks(out, n, end - n)
+    put(out, n, &text)
 }
 
 fn size_of(pte: bool) -> usize

@@ -1,5 +1,6 @@
 // Replies as they look: document 01's, each code, each field that a code names, keys held or not, and rooms too short.
-// Each line is what `write` gave, and the whole room of 320 bytes, which held dots before.
+// Each line is what `write` gave, and the whole room of 320 bytes, which held dots before. Then the messages of appendix 3 of document 001
+// with their checksums.
 use changeover::Key;
 use reply::Answering;
 
@@ -61,8 +62,8 @@ fn keys() -> [Key; 3] {
 
 // A code, full or bare as it is, once as an ESI and once as a PTE.
 fn show_code(code: u32) {
-    let bare = reply::is_bare(code);
-    if reply::is_accepted(code) {
+    let bare = notice::is_bare(code);
+    if notice::is_accepted(code) {
         say(b"K\n");
     } else {
         say(b"E\n");
@@ -83,7 +84,7 @@ fn show_codes() {
 // The notice of a code with each number that a field or a group of fields can have, and with numbers that none has.
 fn show_notice(code: u32, field: u32) {
     let mut room = [b'.'; 237];
-    let a = answering(false, reply::is_bare(code), code, field, no_keys());
+    let a = answering(false, notice::is_bare(code), code, field, no_keys());
     reply::write(&mut room, a);
     let mut number = [0u8; 3];
     text::write_number(&mut number, field as u64);
@@ -121,6 +122,95 @@ fn show_keys(working: Key, bare: bool) {
     );
 }
 
+// The messages of appendix 3, with the customer's identity cut to the 17 characters of its field (18 are printed there): ESI and VAR of the
+// customer whole, and of the bank's replies the characters before the checksum.
+const ESI: [u8; 161] =
+    *b">>ESI161120 0000KERMIT      3.01SMH003701234567             99910000011111111        00941015073000001                                          4B69B6DD4F72C75B0";
+
+const SUO: [u8; 161] =
+    *b">>SUO128120 0000KERMIT      3.01SKH003701234567             99910000011111111        00941015073125001S         0EC755E2853DF893                                 ";
+
+const VAR: [u8; 161] =
+    *b">>VAR161120 0000KERMIT      3.01SMH003701234567             99910000011111111        00941015073125001S         0EC755E2853DF8934954F0194C2B696D91B78D377B4F70D10";
+
+const BANK_ESI: [u8; 144] =
+    *b">>ESI237120K1002PANKKILINJA 1.20SMH99910000011111111        003701234567             00941015073000001                                          ";
+
+const PTE: [u8; 144] =
+    *b">>PTE317120K1002PANKKILINJA 1.20SMH99910000011111111        003701234567             00941015073125001S         0EC755E2853DF8934954F0194C2B696D";
+
+fn as_printed(sum: &[u8], printed: &[u8]) {
+    say(sum);
+    if text::same_bytes(sum, printed) {
+        say(b" as printed\n");
+    } else {
+        say(b" where printed is ");
+        say(printed);
+        say(b"\n");
+    }
+}
+
+// The checksum of a message under working key 0, beside the printed one.
+fn show_printed(name: &[u8], message: &[u8], printed: &[u8]) {
+    let sum = text::hex_digits(digest::checksum(0xAEBAE983D6406D07, message));
+    say(name);
+    as_printed(&sum, printed);
+}
+
+// The reply of appendix 3 as `write` composes it.
+fn composed(pte: bool, message: [u8; 161], closing: [u8; 161]) -> [u8; 320] {
+    let mut room = [b'.'; 320];
+    reply::write(
+        &mut room,
+        Answering {
+            pte,
+            bare: false,
+            code: 1002,
+            field: 0,
+            time: 73215,
+            bank: *b"003701234567             ",
+            software: *b"PANKKILINJA 1.20",
+            message,
+            closing,
+            working: Key::Is(0xAEBAE983D6406D07),
+            transport: Key::Missing,
+            enclosed: Key::Missing,
+        },
+    );
+    room
+}
+
+// Its first characters and its checksum.
+fn show_composed(name: &[u8], room: [u8; 320], start: &[u8], printed: &[u8]) {
+    say(name);
+    if text::same_bytes(&room[0..144], start) {
+        say(b"composed as printed, ");
+    } else {
+        say(b"composed otherwise, ");
+    }
+    as_printed(&room[144..160], printed);
+}
+
+fn show_customers() {
+    show_printed(b"ESIa ", &ESI, b"4B69B6DD4F72C75B");
+    show_printed(b"VARa ", &VAR, b"91B78D377B4F70D1");
+}
+
+fn show_banks() {
+    show_printed(b"ESIp ", &BANK_ESI, b"FC13A419E2BBE1C5");
+    show_printed(b"PTE ", &PTE, b"359D012A52A6FD2E");
+}
+
+fn show_bank_esi() {
+    let room = composed(false, ESI, ESI);
+    show_composed(b"ESIp ", room, &BANK_ESI, b"FC13A419E2BBE1C5");
+}
+
+fn show_pte() {
+    let room = composed(true, SUO, VAR);
+    show_composed(b"PTE ", room, &PTE, b"359D012A52A6FD2E");
+}
+
 fn main() {
     show(answering(false, true, 1010, 10, no_keys()), 320);
     show_codes();
@@ -134,4 +224,8 @@ fn main() {
     show(answering(false, false, 1001, 0, keys()), 237);
     show(answering(true, false, 1001, 0, keys()), 316);
     show(answering(true, false, 1001, 0, keys()), 317);
+    show_customers();
+    show_banks();
+    show_bank_esi();
+    show_pte();
 }

@@ -19,7 +19,7 @@ use Rattle.verdict.specs.declared.Collected.{Collected}
 use Rattle.verdict.specs.declared.Frame.{Frame}
 use Rattle.verdict.specs.declared.Occasion.{Occasion}
 use Rattle.verdict.specs.declared.Outcome.{Outcome}
-use Rattle.reply.specs.Codes.{codeIn, codes}
+use Rattle.notice.specs.Codes.{codeIn, codes}
 use Rattle.reply.specs.Reply.{replyOf}
 use Rattle.reply.specs.declared.Answering.{Answering}
 use Rattle.answers.specs.Answers.{bareAnswer, verdictAnswer}

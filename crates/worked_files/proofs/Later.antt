@@ -29,7 +29,7 @@ use Rattle.message.specs.Rules.{hexFields, formatHolds, oneOf, methods, commonR
 use Rattle.message.specs.Fields.{receiverOf, senderOf, stampTextOf, stampOf, dateOfStamp, versionOf, methodOf, transportGenerationOf, workingGenerationOf, onceFieldOf, digestFieldOf, checksumFieldOf, requestOf}
 use Rattle.verdict.specs.Checks.{firstFailing, typeAllowed, checksumDiffers, digestDiffers, isMissing, keyOr0, faultIs, faultField, formChecks, partyChecks, stampChecks, roomChecks, esiChecks, pairChecks, keyChecks, frameChecks}
 use Rattle.verdict.specs.Outcomes.{grantTo, recordAfter, tableAfter, outcomeOf, tableBy, esiOutcome, esiTable, frameOutcome, frameTable, storedAt, bytesAfter, bytesBy, esiLeaves, frameLeaves}
-use Rattle.reply.specs.Codes.{codeIn, fieldName, textOf}
+use Rattle.notice.specs.Codes.{codeIn, fieldName, textOf}
 use Rattle.reply.specs.Reply.{clockText, noticeOf, hexOr, sealed, sealedFlag, opening, fullBody, bareBody, head, summed, checksumKey, enclosedKey, replyOf, replyLength, replied, writtenLength}
 use Rattle.answers.specs.Answers.{bareAnswer, verdictAnswer}
 use Rattle.whole.specs.WholeFile.{moved, silent, replies, esiSays, pteSays, occasion, afterEsi, esiEnds, suoEnds, frameOf, varEnds, esiGoesOn, suoGoesOn, varGoesOn, esiStarts, suoStarts, varStarts, firstRecord, outsideRecord, withRecord, frameRecord, recordIn, pastIn, endIn, givenAt, sooner, toldOf, atStart, wholeFile}

@@ -8,7 +8,7 @@ use Rattle.answers.proofs.verdict_answer.Lts as lts
 use Rattle.changeover.proofs.held.Reads as held-reads
 use Rattle.message.proofs.transport_generation.Reads as transport-generation-reads
 use Rattle.message.proofs.working_generation.Reads as working-generation-reads
-use Rattle.reply.proofs.is_bare.Reads as is-bare-reads
+use Rattle.notice.proofs.is_bare.Reads as is-bare-reads
 use Rattle.table.proofs.settings.Reads as settings-reads
 use Rattle.verdict.proofs.customer_of.Reads as customer-of-reads
 

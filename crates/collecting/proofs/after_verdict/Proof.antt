@@ -3,9 +3,6 @@ use Rattle.session.specs.Events.{judged}
 use borrow.Author.Needs.{needs}
 use Rattle.collecting.proofs.after_verdict.Statement.{statement}
 use Rattle.collecting.proofs.after_verdict.Tie as tie
-use Rattle.collecting.proofs.after_verdict.Reads as reads
-use Rattle.collecting.proofs.after_verdict.Lts as lts
-use Rattle.collecting.proofs.no_characters.Reads as no-characters-reads
 
 no-characters-requires : tie.Need-no-characters-requires
 no-characters-requires c κs = search needs

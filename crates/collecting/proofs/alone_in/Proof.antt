@@ -6,12 +6,6 @@ use Rattle.collecting.proofs.Kept.{under-eleven, letters-in-it, other-l
 use borrow.Author.Needs.{needs}
 use Rattle.collecting.proofs.alone_in.Statement.{statement}
 use Rattle.collecting.proofs.alone_in.Tie as tie
-use Rattle.collecting.proofs.alone_in.Reads as reads
-use Rattle.collecting.proofs.alone_in.Lts as lts
-use Rattle.collecting.proofs.kept_count.Reads as kept-count-reads
-use Rattle.message.proofs.length_of.Reads as length-of-reads
-use Rattle.text.proofs.all_digits.Reads as all-digits-reads
-use Rattle.text.proofs.number.Reads as number-reads
 
 kept-count-requires : tie.Need-kept-count-requires
 kept-count-requires c κs = search needs

@@ -3,9 +3,6 @@ use Rattle.session.specs.Events.{held}
 use borrow.Author.Needs.{needs}
 use Rattle.collecting.proofs.alone_of.Statement.{statement}
 use Rattle.collecting.proofs.alone_of.Tie as tie
-use Rattle.collecting.proofs.alone_of.Reads as reads
-use Rattle.collecting.proofs.alone_of.Lts as lts
-use Rattle.collecting.proofs.alone_in.Reads as alone-in-reads
 
 alone-in-requires : tie.Need-alone-in-requires
 alone-in-requires c κs = search needs

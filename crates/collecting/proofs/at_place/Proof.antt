@@ -3,8 +3,6 @@ use mathlib.Core.Path.{refl}
 use Rattle.session.specs.Events.{placed}
 use Rattle.collecting.proofs.at_place.Statement.{statement}
 use Rattle.collecting.proofs.at_place.Tie as tie
-use Rattle.collecting.proofs.at_place.Reads as reads
-use Rattle.collecting.proofs.at_place.Lts as lts
 
 returns : tie.Need-returns
 unfolding placed

@@ -5,9 +5,6 @@ use Rattle.session.specs.Events.{held}
 use borrow.Author.Needs.{needs}
 use Rattle.collecting.proofs.begins_suo.Statement.{statement}
 use Rattle.collecting.proofs.begins_suo.Tie as tie
-use Rattle.collecting.proofs.begins_suo.Reads as reads
-use Rattle.collecting.proofs.begins_suo.Lts as lts
-use Rattle.collecting.proofs.begins_with.Reads as begins-with-reads
 
 slice-aggregate-begins-with : tie.Need-slice-aggregate-begins-with
 slice-aggregate-begins-with c = search needs

@@ -1,8 +1,7 @@
 -- Five characters of what is kept are as many of the text, up to the count.
-use mathlib.Core.Path.{_≡_, sym, ap, _∙_}
+use mathlib.Core.Path.{sym, ap, _∙_}
 use mathlib.Core.List.{List}
 use Prim.Native.Nat.{ℕ}
-use native.Mathlib.Nat.{min-le-left}
 use lib.ListN.{take}
 use denote.Ref.{now}
 use lib.Seq.{length-take-le}
@@ -11,10 +10,6 @@ use Rattle.collecting.proofs.Kept.{take-least}
 use borrow.Author.Needs.{needs}
 use Rattle.collecting.proofs.begins_with.Statement.{statement}
 use Rattle.collecting.proofs.begins_with.Tie as tie
-use Rattle.collecting.proofs.begins_with.Reads as reads
-use Rattle.collecting.proofs.begins_with.Lts as lts
-use Rattle.collecting.proofs.least.Reads as least-reads
-use Rattle.text.proofs.same_bytes.Reads as same-bytes-reads
 
 least-requires : tie.Need-least-requires
 least-requires c κs = search needs

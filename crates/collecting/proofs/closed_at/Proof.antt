@@ -3,10 +3,6 @@ use Rattle.session.specs.Events.{shut}
 use borrow.Author.Needs.{needs}
 use Rattle.collecting.proofs.closed_at.Statement.{statement}
 use Rattle.collecting.proofs.closed_at.Tie as tie
-use Rattle.collecting.proofs.closed_at.Reads as reads
-use Rattle.collecting.proofs.closed_at.Lts as lts
-use Rattle.collecting.proofs.at_place.Reads as at-place-reads
-use Rattle.collecting.proofs.no_characters.Reads as no-characters-reads
 
 no-characters-requires : tie.Need-no-characters-requires
 no-characters-requires c κs = search needs

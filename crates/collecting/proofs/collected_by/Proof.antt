@@ -3,10 +3,6 @@ use Rattle.collecting.proofs.Kept.{blank-over, other-over}
 use borrow.Author.Needs.{needs}
 use Rattle.collecting.proofs.collected_by.Statement.{statement}
 use Rattle.collecting.proofs.collected_by.Tie as tie
-use Rattle.collecting.proofs.collected_by.Reads as reads
-use Rattle.collecting.proofs.collected_by.Lts as lts
-use Rattle.collecting.proofs.rest_blank.Reads as rest-blank-reads
-use Rattle.message.proofs.length_of.Reads as length-of-reads
 
 length-of-requires : tie.Need-length-of-requires
 length-of-requires c κs = search needs

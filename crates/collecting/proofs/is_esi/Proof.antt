@@ -3,8 +3,6 @@ use Rattle.session.specs.Events.{isEsi}
 use borrow.Author.Needs.{needs}
 use Rattle.collecting.proofs.is_esi.Statement.{statement}
 use Rattle.collecting.proofs.is_esi.Tie as tie
-use Rattle.collecting.proofs.is_esi.Reads as reads
-use Rattle.collecting.proofs.is_esi.Lts as lts
 
 enum-told : tie.Need-enum-told
 enum-told c = search needs

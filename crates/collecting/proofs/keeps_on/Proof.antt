@@ -3,9 +3,6 @@ use Rattle.session.specs.Events.{keepsOn}
 use borrow.Author.Needs.{needs}
 use Rattle.collecting.proofs.keeps_on.Statement.{statement}
 use Rattle.collecting.proofs.keeps_on.Tie as tie
-use Rattle.collecting.proofs.keeps_on.Reads as reads
-use Rattle.collecting.proofs.keeps_on.Lts as lts
-use Rattle.collecting.proofs.at_place.Reads as at-place-reads
 
 at-place-requires : tie.Need-at-place-requires
 at-place-requires c κs = search needs

@@ -7,9 +7,6 @@ use Rattle.collecting.proofs.Kept.{kept-length}
 use borrow.Author.Needs.{needs}
 use Rattle.collecting.proofs.kept_count.Statement.{statement}
 use Rattle.collecting.proofs.kept_count.Tie as tie
-use Rattle.collecting.proofs.kept_count.Reads as reads
-use Rattle.collecting.proofs.kept_count.Lts as lts
-use Rattle.collecting.proofs.least.Reads as least-reads
 
 least-requires : tie.Need-least-requires
 least-requires c κs = search needs

@@ -3,10 +3,6 @@ use Rattle.session.specs.Machine.{unopened}
 use borrow.Author.Needs.{needs}
 use Rattle.collecting.proofs.no_batch.Statement.{statement}
 use Rattle.collecting.proofs.no_batch.Tie as tie
-use Rattle.collecting.proofs.no_batch.Reads as reads
-use Rattle.collecting.proofs.no_batch.Lts as lts
-use Rattle.digest.proofs.at_record.Reads as at-record-reads
-use Rattle.digest.proofs.start.Reads as start-reads
 
 start-requires : tie.Need-start-requires
 start-requires c κs = search needs

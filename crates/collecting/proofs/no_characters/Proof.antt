@@ -3,8 +3,6 @@ use mathlib.Core.Path.{refl}
 use Rattle.session.specs.Events.{nothing}
 use Rattle.collecting.proofs.no_characters.Statement.{statement}
 use Rattle.collecting.proofs.no_characters.Tie as tie
-use Rattle.collecting.proofs.no_characters.Reads as reads
-use Rattle.collecting.proofs.no_characters.Lts as lts
 
 returns : tie.Need-returns
 unfolding nothing

@@ -3,10 +3,6 @@ use Rattle.session.specs.Machine.{unopened}
 use borrow.Author.Needs.{needs}
 use Rattle.collecting.proofs.no_file.Statement.{statement}
 use Rattle.collecting.proofs.no_file.Tie as tie
-use Rattle.collecting.proofs.no_file.Reads as reads
-use Rattle.collecting.proofs.no_file.Lts as lts
-use Rattle.collecting.proofs.no_batch.Reads as no-batch-reads
-use Rattle.collecting.proofs.no_characters.Reads as no-characters-reads
 
 no-characters-requires : tie.Need-no-characters-requires
 no-characters-requires c κs = search needs

@@ -3,8 +3,6 @@ use mathlib.Core.Path.{refl}
 use Rattle.whole.specs.WholeFile.{occasion}
 use Rattle.collecting.proofs.occasion_of.Statement.{statement}
 use Rattle.collecting.proofs.occasion_of.Tie as tie
-use Rattle.collecting.proofs.occasion_of.Reads as reads
-use Rattle.collecting.proofs.occasion_of.Lts as lts
 
 returns : tie.Need-returns
 unfolding occasion

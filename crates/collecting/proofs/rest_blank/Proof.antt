@@ -8,10 +8,6 @@ use Rattle.collecting.proofs.Kept.{none-over, some-over}
 use borrow.Author.Needs.{needs}
 use Rattle.collecting.proofs.rest_blank.Statement.{statement}
 use Rattle.collecting.proofs.rest_blank.Tie as tie
-use Rattle.collecting.proofs.rest_blank.Reads as reads
-use Rattle.collecting.proofs.rest_blank.Lts as lts
-use Rattle.collecting.proofs.kept_count.Reads as kept-count-reads
-use Rattle.text.proofs.all_blank.Reads as all-blank-reads
 
 kept-count-requires : tie.Need-kept-count-requires
 kept-count-requires c κs = search needs

@@ -4,10 +4,6 @@ use Rattle.session.specs.Events.{held}
 use borrow.Author.Needs.{needs}
 use Rattle.collecting.proofs.wants_more.Statement.{statement}
 use Rattle.collecting.proofs.wants_more.Tie as tie
-use Rattle.collecting.proofs.wants_more.Reads as reads
-use Rattle.collecting.proofs.wants_more.Lts as lts
-use Rattle.collecting.proofs.kept_count.Reads as kept-count-reads
-use Rattle.message.proofs.length_of.Reads as length-of-reads
 
 kept-count-requires : tie.Need-kept-count-requires
 kept-count-requires c κs = search needs

@@ -3,8 +3,6 @@ use mathlib.Core.Path.{refl}
 use Rattle.session.specs.Events.{withBatch}
 use Rattle.collecting.proofs.with_batch.Statement.{statement}
 use Rattle.collecting.proofs.with_batch.Tie as tie
-use Rattle.collecting.proofs.with_batch.Reads as reads
-use Rattle.collecting.proofs.with_batch.Lts as lts
 
 returns : tie.Need-returns
 unfolding withBatch

@@ -3,8 +3,6 @@ use mathlib.Core.Path.{refl}
 use Rattle.session.specs.Machine.{withLine}
 use Rattle.collecting.proofs.with_line.Statement.{statement}
 use Rattle.collecting.proofs.with_line.Tie as tie
-use Rattle.collecting.proofs.with_line.Reads as reads
-use Rattle.collecting.proofs.with_line.Lts as lts
 
 returns : tie.Need-returns
 unfolding withLine

@@ -1,10 +1,9 @@
--- The clock, the text, and blanks for what is left of sixty characters.
+-- The clock and the text are written one after the other.
 use mathlib.Core.Path.{ap}
-use Prim.Native.Nat.{_+_, _-_}
 use native.Mathlib.Omega.{arith}
 use lib.ListN.{length}
 use Rattle.reply.proofs.Parts.{begin, then, end, alike}
-use Rattle.reply.proofs.Widths.{text-length, notice-filled, notice-length}
+use Rattle.reply.proofs.Widths.{notice-filled, notice-length}
 use borrow.Author.Needs.{needs}
 use Rattle.reply.proofs.put_notice.Statement.{statement}
 use Rattle.reply.proofs.put_notice.Tie as tie
@@ -12,8 +11,8 @@ use Rattle.reply.proofs.put_notice.Tie as tie
 clock-requires : tie.Need-clock-requires
 clock-requires c κs = search needs
 
-add-end : tie.Need-add-end
-add-end c = search needs
+text-requires : tie.Need-text-requires
+text-requires c κs = search needs
 
 slice-aggregate-put : tie.Need-slice-aggregate-put
 slice-aggregate-put c = search needs
@@ -21,41 +20,31 @@ slice-aggregate-put c = search needs
 put-requires : tie.Need-put-requires
 put-requires c κs = search needs
 
-put-text-requires : tie.Need-put-text-requires
-put-text-requires c κs = search needs
+slice-aggregate-put-2 : tie.Need-slice-aggregate-put-2
+slice-aggregate-put-2 c = search needs
 
-sub-put-blanks : tie.Need-sub-put-blanks
-sub-put-blanks c =
-    let s = c .before .before .before .before .before .before .before .before .before .before .before .before in
-    omega (arith, text-length (s .args .a .code) (s .args .a .field))
-
-put-blanks-requires : tie.Need-put-blanks-requires
-put-blanks-requires c κs =
-    let s = c .before .before .before .before .before .before .before .before .before .before .before .before in
-    omega (arith, text-length (s .args .a .code) (s .args .a .field))
+put-requires-2 : tie.Need-put-requires-2
+put-requires-2 c κs = search needs
 
 same-length : tie.Need-same-length
 same-length c = search needs
 
 returns : tie.Need-returns
 returns c =
-    let s = c .before .before .before .before .before .before .before .before .before .before .before .before .before .before .before in
-    let a = s .args .a in
-    let e = notice-filled a (c .before .before .before .before .before .before .before .before .before .before .before .before .before .clock .result) (s .args .at + 60 - c .before .before .before .before .before .before .put-text .result) (c .before .before .before .before .before .before .before .before .before .before .before .before .before .clock .ensures) (omega (arith, s .pre, c .before .before .before .before .before .before .before .before .before .before .put .ensures .place, c .before .before .before .before .before .before .put-text .ensures .place)) in
+    let s = c .before .before .before .before .before .before .before .before .before .before .before .before .before in
+    let e = notice-filled (s .args .a) _ _ (c .before .before .before .before .before .before .before .before .before .before .before .clock .ensures) (c .before .before .before .before .before .before .before .before .before .before .text .ensures) in
     alike e
-    (end (then (then (begin (c .before .before .before .before .before .before .before .before .before .before .put .ensures)) (c .before .before .before .before .before .before .put-text .ensures)) (c .before .before .put-blanks .ensures))
-    (omega (arith, s .pre, ap length e, notice-length a)))
+    (end (then (begin (c .before .before .before .before .before .before .before .put .ensures)) (c .before .before .put2 .ensures)) (omega (arith, s .pre, ap length e, notice-length (s .args .a))))
 
 pub put-notice-spec : {M : Type 1} → statement M
 put-notice-spec =
     tie.close
     (tie.spec
     clock-requires
-    add-end
+    text-requires
     slice-aggregate-put
     put-requires
-    put-text-requires
-    sub-put-blanks
-    put-blanks-requires
+    slice-aggregate-put-2
+    put-requires-2
     same-length
     returns)

@@ -1,0 +1,25 @@
+-- The transport key is the one that the SUO's sender holds.
+use Rattle.events.proofs.Done.{once-made}
+use borrow.Author.Needs.{needs}
+use Rattle.events.proofs.one_time_of.Statement.{statement}
+use Rattle.events.proofs.one_time_of.Tie as tie
+
+sender-requires : tie.Need-sender-requires
+sender-requires c κs = search needs
+
+find-requires : tie.Need-find-requires
+find-requires c κs = search needs
+
+transport-held-requires : tie.Need-transport-held-requires
+transport-held-requires c κs = search needs
+
+one-time-requires : tie.Need-one-time-requires
+one-time-requires c κs = search needs
+
+returns : tie.Need-returns
+returns c = once-made _ _ (c .before .before .before .sender .ensures) (c .before .before .find .ensures) (c .before .transport-held .ensures) (c .one-time .ensures)
+
+pub one-time-of-spec : {M : Type 1} → statement M
+one-time-of-spec =
+    tie.close
+    (tie.spec sender-requires find-requires transport-held-requires one-time-requires returns)

@@ -1,0 +1,42 @@
+-- The frame opened is made of what the calls give.
+use Rattle.events.proofs.Done.{suo-made}
+use borrow.Author.Needs.{needs}
+use Rattle.events.proofs.suo_done.Statement.{statement}
+use Rattle.events.proofs.suo_done.Tie as tie
+
+collected-by-requires : tie.Need-collected-by-requires
+collected-by-requires c κs = search needs
+
+one-time-of-requires : tie.Need-one-time-of-requires
+one-time-of-requires c κs = search needs
+
+start-requires : tie.Need-start-requires
+start-requires c κs = search needs
+
+at-record-requires : tie.Need-at-record-requires
+at-record-requires c κs = search needs
+
+no-characters-requires : tie.Need-no-characters-requires
+no-characters-requires c κs = search needs
+
+at-place-requires : tie.Need-at-place-requires
+at-place-requires c κs = search needs
+
+with-batch-requires : tie.Need-with-batch-requires
+with-batch-requires c κs = search needs
+
+returns : tie.Need-returns
+returns c = suo-made _ (c .before .before .no-characters .ensures) (c .before .at-place .ensures) _ _ (c .before .before .before .before .before .before .before .collected-by .ensures) (c .before .before .before .before .before .one-time-of .ensures) (c .before .before .before .before .start .ensures) (c .before .before .before .at-record .ensures) (c .with-batch .ensures)
+
+pub suo-done-spec : {M : Type 1} → statement M
+suo-done-spec =
+    tie.close
+    (tie.spec
+    collected-by-requires
+    one-time-of-requires
+    start-requires
+    at-record-requires
+    no-characters-requires
+    at-place-requires
+    with-batch-requires
+    returns)

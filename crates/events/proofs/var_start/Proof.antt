@@ -1,0 +1,44 @@
+-- A first record that stands alone is the message.
+use Prim.Native.Nat.{ℕ}
+use denote.Ref.{now}
+use Rattle.message.specs.declared.Kind.the-variants.{Var}
+use Rattle.events.proofs.Turns.{Gives, goes-on, alone}
+use Rattle.session.specs.Events.{aloneBy, collectedBy, varDone, varStart}
+use borrow.Author.Needs.{needs}
+use Rattle.events.proofs.var_start.Statement.{statement}
+use Rattle.events.proofs.var_start.Tie as tie
+
+alone-of-requires : tie.Need-alone-of-requires
+alone-of-requires c κs = search needs
+
+var-on-requires : tie.Need-var-on-requires
+var-on-requires c κs = search needs
+
+same-length : tie.Need-same-length
+same-length c = search needs
+
+returns : tie.Need-returns
+unfolding varStart aloneBy
+returns c = goes-on (Gives _ _) _ (λ (n : ℕ). varDone (c .before .before .before .before .before .before .before .before .args .s) (now (c .before .before .before .before .before .before .before .before .args .t)) (collectedBy Var n (c .before .before .before .before .before .before .before .before .args .s .gathered))) _ _ (c .before .before .before .before .before .alone-of .ensures) (c .before .before .before .before .if1 .taken) (c .before .before .var-on .ensures)
+
+var-done-requires : tie.Need-var-done-requires
+var-done-requires c κs = search needs
+
+same-length-2 : tie.Need-same-length-2
+same-length-2 c = search needs
+
+returns-2 : tie.Need-returns-2
+unfolding varStart aloneBy
+returns-2 c = alone (Gives _ _) _ (λ (n : ℕ). varDone (c .before .before .before .before .before .before .before .before .args .s) (now (c .before .before .before .before .before .before .before .before .args .t)) (collectedBy Var n (c .before .before .before .before .before .before .before .before .args .s .gathered))) _ _ (c .before .before .before .before .before .alone-of .ensures) (c .before .before .before .before .if1 .left) (c .before .before .var-done .ensures)
+
+pub var-start-spec : {M : Type 1} → statement M
+var-start-spec =
+    tie.close
+    (tie.spec
+    alone-of-requires
+    var-on-requires
+    same-length
+    returns
+    var-done-requires
+    same-length-2
+    returns-2)

@@ -1,0 +1,1 @@
+-- What private contracts of `events` cite.

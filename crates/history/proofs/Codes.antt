@@ -1,0 +1,113 @@
+-- Which codes are K: those that acceptance grants, with the whole reply; the code of no check that fails is.
+-- Assumes nothing.
+use Prim.Native.Nat.{ℕ}
+use mathlib.Core.Path.{_≡_, refl, sym, ap, _∙_}
+use mathlib.Core.List.{List, [], _∷_}
+use mathlib.Core.Bool.{Bool, true, false}
+use native.Mathlib.Omega.{arith}
+use mathlib.Core.Logic.{⊎-elim}
+use borrow.Author.Tests.{eqb-true}
+use Rattle.ground.specs.Choice.{both, fails, pick}
+use Rattle.ground.specs.Lists.{all, member}
+use Rattle.ground.proofs.Choices.{left, right, either-cases}
+use Rattle.register.proofs.Refused.{fails-true}
+use Rattle.acceptance.proofs.Grants.{codes as granted, grant-code}
+use Rattle.table.specs.Table.{Table}
+use Rattle.message.specs.declared.Fault.the-variants.{Found}
+use Rattle.verdict.specs.Checks.{Check, firstFailing, formChecks, partyChecks, stampChecks, roomChecks, pairChecks, keyChecks, esiChecks, frameChecks}
+use Rattle.verdict.specs.Outcomes.{grantTo}
+use Rattle.verdict.specs.declared.Collected.{Collected}
+use Rattle.verdict.specs.declared.Frame.{Frame}
+use Rattle.verdict.specs.declared.Occasion.{Occasion}
+use Rattle.notice.specs.Codes.{codeIn, codes}
+
+-- K or E, and bare or full
+abbrev pub isAccepted : ℕ → Bool
+isAccepted code = codeIn code codes .accepted
+
+abbrev pub isBare : ℕ → Bool
+isBare code = codeIn code codes .bare
+
+-- ---- the bare answers of the machine are E
+
+pub e1010 : isAccepted 1010 ≡ false
+unfolding codeIn pick
+e1010 = refl
+
+pub e1011 : isAccepted 1011 ≡ false
+unfolding codeIn pick
+e1011 = refl
+
+pub e1023 : isAccepted 1023 ≡ false
+unfolding codeIn pick
+e1023 = refl
+
+pub e1024 : isAccepted 1024 ≡ false
+unfolding codeIn pick
+e1024 = refl
+
+pub e1032 : isAccepted 1032 ≡ false
+unfolding codeIn pick
+e1032 = refl
+
+pub e1034 : isAccepted 1034 ≡ false
+unfolding codeIn pick
+e1034 = refl
+
+-- ---- what is granted is K, and full
+
+all-member : (f : ℕ → Bool) (l : List ℕ) (x : ℕ) → all f l ≡ true → member x l ≡ true → f x ≡ true
+unfolding all member
+all-member f [] x a m = absurd (let z : _≡_ {A = ℕ} 0 1 = cc in omega arith)
+all-member f (y ∷ l) x a m =
+    ⊎-elim (λ e. ap f (sym (eqb-true y x e)) ∙ left _ _ a) (λ e. all-member f l x (right _ _ a) e) (either-cases _ _ m)
+
+granted-accepted : all isAccepted granted ≡ true
+unfolding all both codeIn pick
+granted-accepted = refl
+
+granted-full : all (λ c. fails (isBare c)) granted ≡ true
+unfolding all both fails codeIn pick
+granted-full = refl
+
+module _ (t : Table) (o : Occasion) (m closing : List ℕ) where
+  granted-code : member (grantTo t o m closing .code) granted ≡ true
+  unfolding grantTo
+  granted-code = grant-code _ _ _ _ _ _
+
+  pub grants-k : isAccepted (grantTo t o m closing .code) ≡ true
+  grants-k = all-member isAccepted granted _ granted-accepted granted-code
+
+  pub grants-full : isBare (grantTo t o m closing .code) ≡ false
+  grants-full = fails-true _ (all-member (λ c. fails (isBare c)) granted _ granted-full granted-code)
+
+-- ---- the code of a check that fails is E
+
+unfoldable allE : List Check → Bool
+allE [] = true
+allE (c ∷ cs) = both (fails (isAccepted (c .code))) (allE cs)
+
+first-e : (cs : List Check) (code field : ℕ) → allE cs ≡ true → firstFailing cs ≡ Found code field → isAccepted code ≡ false
+unfolding allE firstFailing pick
+first-e [] code field a e = absurd (let z : _≡_ {A = ℕ} 0 1 = cc in omega arith)
+first-e (c ∷ cs) code field a e = by (c .failed) e (first-e cs code field (right _ _ a))
+  where
+    by : (t : Bool) → pick t (Found (c .code) (c .field)) (firstFailing cs) ≡ Found code field
+        → (firstFailing cs ≡ Found code field → isAccepted code ≡ false) → isAccepted code ≡ false
+    by true p r = let q : c .code ≡ code = cc in ap isAccepted (sym q) ∙ fails-true _ (left _ _ a)
+    by false p r = r p
+
+esi-all-e : (t : Table) (today : ℕ) (m : Collected) → allE (esiChecks t today m) ≡ true
+unfolding allE esiChecks formChecks partyChecks stampChecks roomChecks both fails codeIn pick
+esi-all-e t today m = refl
+
+frame-all-e : (t : Table) (today kind : ℕ) (f : Frame) → allE (frameChecks t today kind f) ≡ true
+unfolding allE frameChecks formChecks partyChecks pairChecks stampChecks keyChecks roomChecks both fails codeIn pick
+frame-all-e t today kind f = refl
+
+pub esi-e : (t : Table) (today : ℕ) (m : Collected) (code field : ℕ) → firstFailing (esiChecks t today m) ≡ Found code field → isAccepted code ≡ false
+esi-e t today m code field e = first-e (esiChecks t today m) code field (esi-all-e t today m) e
+
+pub frame-e : (t : Table) (today kind : ℕ) (f : Frame) (code field : ℕ) → firstFailing (frameChecks t today kind f) ≡ Found code field
+    → isAccepted code ≡ false
+frame-e t today kind f code field e = first-e (frameChecks t today kind f) code field (frame-all-e t today kind f) e

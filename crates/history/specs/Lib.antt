@@ -1,0 +1,2 @@
+-- The statement that no stamp is accepted twice.
+pub mod History

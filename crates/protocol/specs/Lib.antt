@@ -1,0 +1,2 @@
+-- What a caller does with a file.
+pub mod Protocol
