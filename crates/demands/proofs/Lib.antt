@@ -1,0 +1,7 @@
+-- The proofs of the statements, in their order.
+pub mod Refusals
+pub mod Accepted
+pub mod Stays
+pub mod Ranges
+pub mod Cuts
+pub mod Second

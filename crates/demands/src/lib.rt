@@ -1,0 +1,1 @@
+// The promises a bank can hold us to: statements and their proofs, no code.

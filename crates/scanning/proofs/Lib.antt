@@ -1,0 +1,5 @@
+-- Laws that belong to no one function.
+pub mod Plainly
+pub mod Told
+pub mod Steps
+pub mod Scans

@@ -1,0 +1,2 @@
+-- What private contracts of `scanning` cite.
+pub mod Runs
