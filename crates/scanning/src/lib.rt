@@ -38,11 +38,11 @@ fn run_end(input: &[u8], from: usize, l: session::Line) -> usize
     let room = (4294967295 - l.size) as usize;
     let mut end = from;
     while end < input.len() {
-        let b = input[end];
-        if b == 0x0A {
+        let c = input[end];
+        if c == 0x0A {
             break;
         }
-        if b == 0x0D {
+        if c == 0x0D {
             break;
         }
         if room <= end - from {

@@ -30,8 +30,8 @@ cast-room c = search needs
 loop-holds : tie.Need-loop-holds Inv-loop μ-loop
 loop-holds c = (search needs, search needs, none-yet (c .before .before .args .input .now) (c .before .before .args .from), search needs)
 
-shared-slice-read-b : tie.Need-shared-slice-read-b Inv-loop μ-loop
-shared-slice-read-b c = omega arith
+shared-slice-read-c : tie.Need-shared-slice-read-c Inv-loop μ-loop
+shared-slice-read-c c = omega arith
 
 sub-if4 : tie.Need-sub-if4 Inv-loop μ-loop
 sub-if4 c = omega arith
@@ -86,7 +86,7 @@ run-end-spec =
     sub-room
     cast-room
     loop-holds
-    shared-slice-read-b
+    shared-slice-read-c
     sub-if4
     add-end
     loop-less

@@ -82,7 +82,7 @@ step-requires c κs =
     let l = c .before .before .before .before .before .before .before .loop .inv in (c .before .before .before .before .before .before .before .before .before .before .box-table .ensures, l .3 ∙ ap scheduleOf (l .2))
 
 add-i : tie.Need-add-i Inv-loop μ-loop
-add-i c = omega (arith, c .before .before .before .before .before .before .before .before .before .before .before .loop-test .taken, c .before .before .before .before .before .before .before .before .before .before .before .before .before .before .before .before .before .before .good .1 .1 .0 .0)
+add-i c = omega (arith, c .before .before .before .before .before .before .before .before .before .before .before .loop-test .taken, c .before .before .before .before .before .before .before .before .before .before .before .before .before .before .before .before .before .before .good .1 .1 .0 .1)
 
 same-length : tie.Need-same-length Inv-loop μ-loop
 same-length c = search needs

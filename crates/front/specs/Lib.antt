@@ -1,0 +1,1 @@
+-- What private contracts of `front` cite.

@@ -1,0 +1,4 @@
+-- Laws that belong to no one function.
+pub mod Refusing
+pub mod Opening
+pub mod Serving

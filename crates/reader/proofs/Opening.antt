@@ -1,0 +1,89 @@
+-- Of an opening's conditions the lowest that holds is answered, and where none does today's date is stored and a new file begins.
+-- Assumes nothing.
+use Prim.Native.Nat.{ℕ, _<_, _≤_}
+use mathlib.Core.Path.{_≡_, refl, sym, ap, ap₂, _∙_}
+use mathlib.Core.Bool.{Bool, true, false}
+use mathlib.Core.List.{List, [], _∷_}
+use borrow.Author.Tests.{eq-eqb, ne-eqb}
+use lib.Dec.{eqb}
+use Rattle.ground.specs.Choice.{either, fails, pick, between}
+use Rattle.ground.proofs.Choices.{picks, skips, either-left, either-right, between-in, between-below, between-above}
+use Rattle.calendar.specs.Dates.{realDate, realTime, earlier}
+use Rattle.table.specs.Decode.{isTable, tableOf}
+use Rattle.table.specs.Stored.{dayStored}
+use Rattle.table.proofs.Stores.{day-is}
+use Rattle.register.specs.Refusals.{lowest, noTable, badDay}
+use Rattle.register.proofs.Refused.{lowest-first, lowest-next, none-left, served, fails-false, either-none}
+use Rattle.register.proofs.Rewritten.{served-leaves, refused-as}
+use Rattle.answers.specs.declared.Opening.{Opening}
+use Rattle.session.specs.Machine.{opened, unopened}
+use Rattle.session.specs.declared.Session.{Session}
+use Rattle.calls.specs.Reading.{openingRefusals, openingAnswer, openingGives, openingLeaves}
+use Rattle.calls.specs.declared.OpenAnswer.{OpenAnswer}
+
+module _ (b : List ℕ) (o : Opening) where
+  -- ---- the conditions, in the order of their numbers
+
+  pub no-table : isTable b ≡ false → 2 ≡ openingAnswer b o
+  unfolding openingAnswer openingRefusals noTable fails
+  no-table e = sym (lowest-first _ _ (ap fails e))
+
+  module _ (e : isTable b ≡ true) where
+    bad-moment : either (badDay (tableOf b) (o .today .yymmdd)) (fails (realTime (o .time))) ≡ true → 4 ≡ openingAnswer b o
+    unfolding openingAnswer openingRefusals noTable fails
+    bad-moment h = sym (lowest-next _ _ (ap fails e) ∙ lowest-first _ _ h)
+
+    pub no-date : realDate (o .today .yymmdd) ≡ false → 4 ≡ openingAnswer b o
+    unfolding badDay fails
+    no-date h = bad-moment (either-left _ _ (either-left _ _ (ap fails h)))
+
+    module _ (d : realDate (o .today .yymmdd) ≡ true) where
+      pub day-before : earlier (o .today .yymmdd) (tableOf b .day) ≡ true → 4 ≡ openingAnswer b o
+      unfolding badDay
+      day-before h = bad-moment (either-left _ _ (either-right _ _ h))
+
+      pub no-time : realTime (o .time) ≡ false → 4 ≡ openingAnswer b o
+      unfolding fails
+      no-time h = bad-moment (either-right _ _ (ap fails h))
+
+      module _ (l : earlier (o .today .yymmdd) (tableOf b .day) ≡ false) (t : realTime (o .time) ≡ true) where
+        good-moment : openingAnswer b o ≡ lowest (record { number = 11; holds = fails (between 1 16 (o .kind)) } ∷ [])
+        unfolding openingAnswer openingRefusals noTable badDay fails
+        good-moment =
+            lowest-next _ _ (ap fails e) ∙ lowest-next _ _ (either-none _ _ (either-none _ _ (ap fails d) l) (ap fails t))
+
+        pub kind-below : o .kind < 1 → 11 ≡ openingAnswer b o
+        unfolding fails
+        kind-below h = sym (good-moment ∙ lowest-first _ _ (ap fails (between-below 1 16 (o .kind) h)))
+
+        pub kind-above : 16 < o .kind → 11 ≡ openingAnswer b o
+        unfolding fails
+        kind-above h = sym (good-moment ∙ lowest-first _ _ (ap fails (between-above 1 16 (o .kind) h)))
+
+        pub kind-good : 1 ≤ o .kind → o .kind ≤ 16 → 0 ≡ openingAnswer b o
+        unfolding fails
+        kind-good p q = none-left ∙ sym (good-moment ∙ lowest-next _ _ (ap fails (between-in 1 16 (o .kind) p q)))
+
+  -- ---- what the call gives and leaves
+
+  table-there : openingAnswer b o ≡ 0 → isTable b ≡ true
+  unfolding openingAnswer openingRefusals noTable
+  table-there a = fails-false _ (served 2 _ _ refl a .0)
+
+  module _ {n : ℕ} (e : n ≡ openingAnswer b o) where
+    pub refused-opening : (n ≡ 0 → ⊥) → {s : Session} → s ≡ unopened
+        → (record { refusal = n; session = s } ≡ openingGives b o) × (b ≡ openingLeaves b o)
+    unfolding openingGives openingLeaves
+    refused-opening z u = (
+      ap₂ (λ (m : ℕ) (v : Session). record { refusal = m; session = v }) e (u ∙ sym (skips _ _ _ (ne-eqb _ 0 (λ q. z (e ∙ q))))),
+      refused-as n _ b _ e z,
+    )
+
+    pub served-opening : n ≡ 0 → {s : Session} {w : List ℕ} → s ≡ opened o → w ≡ dayStored b (o .today .yymmdd)
+        → (record { refusal = 0; session = s } ≡ openingGives b o) × (w ≡ openingLeaves b o)
+    unfolding openingGives openingLeaves
+    served-opening z u d =
+        let a : openingAnswer b o ≡ 0 = sym e ∙ z in (
+          ap₂ (λ (m : ℕ) (v : Session). record { refusal = m; session = v }) (sym a) (u ∙ sym (picks _ _ _ (eq-eqb _ 0 a))),
+          d ∙ day-is b (table-there a) (o .today .yymmdd) ∙ sym (served-leaves _ b _ a),
+        )

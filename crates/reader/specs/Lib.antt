@@ -1,0 +1,2 @@
+-- What private contracts of `reader` cite.
+pub mod Lent

@@ -1,0 +1,201 @@
+// The three calls that read a file: open, read, end.
+ghost use mathlib.Core.Path.{_≡_};
+ghost use mathlib.Core.Bool.{true, false};
+ghost use Rattle.register.specs.Refusals.{lowest};
+ghost use Rattle.calls.specs.Reading.{openingAnswer, openingGives, openingLeaves, isDue, awaits, finishes, roomAfter, lengthOf, readDone, endDone};
+ghost use Rattle.reader.specs.Lent.{lentRefusals};
+
+// ---- open
+
+// The number of the lowest refusal of an opening, or 0.
+fn opening_refusal(t: &[u8], o: answers::Opening) -> u32
+    ensures { λ r. ⌜ r ≡ openingAnswer (now (t .entry)) o ⌝ }
+{
+    let today = o.today;
+    if !table::is_table(t) {
+        return 2;
+    }
+    if !today.is_real() {
+        return 4;
+    }
+    let day = table::day(t);
+    if today.before(day) {
+        return 4;
+    }
+    if !calendar::is_real_time(o.time) {
+        return 4;
+    }
+    if o.kind < 1 {
+        return 11;
+    }
+    if 16 < o.kind {
+        return 11;
+    }
+    0
+}
+
+// Opens a file: stores today's date in the table.
+pub fn open(t: &mut [u8], o: answers::Opening) -> calls::OpenAnswer
+    ensures { λ r. ⌜ r ≡ openingGives (now (t .entry)) o ⌝ }
+    ensures { λ _. ⌜ now (t .exit) ≡ openingLeaves (now (t .entry)) o ⌝ }
+{
+    let refusal = opening_refusal(t, o);
+    if refusal != 0 {
+        return calls::OpenAnswer {
+            refusal,
+            session: collecting::no_file(),
+        };
+    }
+    let today = o.today;
+    table::store_day(t, today);
+    calls::OpenAnswer {
+        refusal: 0,
+        session: collecting::opened_file(o),
+    }
+}
+
+// ---- read
+
+// Writes a reply, if there is one, and says how long it is.
+fn put_reply(room: &mut [u8], r: session::Reply) -> usize
+    ensures { λ x. ⌜ x ≡ lengthOf r (now (room .entry)) ⌝ }
+    ensures { λ _. ⌜ now (room .exit) ≡ roomAfter r (now (room .entry)) ⌝ }
+{
+    if !r.given {
+        return 0;
+    }
+    let answer = r.answer;
+    reply::write(room, answer)
+}
+
+fn refused(refusal: u32, session: session::Session) -> calls::Answer
+    ensures { λ r. ⌜ r ≡ record { refusal = refusal; taken = 0; length = 0; finished = false; session = session } ⌝ }
+{
+    calls::Answer {
+        refusal,
+        taken: 0,
+        length: 0,
+        finished: false,
+        session,
+    }
+}
+
+// The number of the lowest refusal that reads and ends share, 1 or 2, or 0.
+fn lent_refusal(t: &[u8], room: &[u8]) -> u32
+    ensures { λ r. ⌜ r ≡ lowest (lentRefusals (now (t .entry)) (now (room .entry))) ⌝ }
+{
+    if room.len() < 317 {
+        return 1;
+    }
+    if !table::is_table(t) {
+        return 2;
+    }
+    0
+}
+
+// Takes bytes through the LF that settles a reply, or all of them.
+pub fn read(t: &mut [u8], s: session::Session, input: &[u8], room: &mut [u8]) -> calls::Answer
+    ensures { λ r. ⌜ r ≡ readDone s (now (t .entry)) (now (input .entry)) (now (room .entry)) .answer ⌝ }
+    ensures { λ _. ⌜ now (t .exit) ≡ readDone s (now (t .entry)) (now (input .entry)) (now (room .entry)) .table ⌝ }
+    ensures { λ _. ⌜ now (room .exit) ≡ readDone s (now (t .entry)) (now (input .entry)) (now (room .entry)) .room ⌝ }
+{
+    let refusal = lent_refusal(t, room);
+    if refusal != 0 {
+        return refused(refusal, s);
+    }
+    let day = table::day(t);
+    if hearing::is_read_refused(s, day.yymmdd) {
+        return refused(3, s);
+    }
+    let x = scanning::scan(s, t, input);
+    let session = x.session;
+    let reply = x.reply;
+    let place = session.place;
+    let length = put_reply(room, reply);
+    let closed = hearing::is_closed(place);
+    calls::Answer {
+        refusal: 0,
+        taken: x.taken,
+        length,
+        finished: closed,
+        session,
+    }
+}
+
+// ---- end
+
+fn is_due(p: session::Place) -> bool
+    ensures { λ r. ⌜ r ≡ isDue p ⌝ }
+{
+    match p {
+        session::Place::BeforeEsi => false,
+        session::Place::Outside => false,
+        session::Place::Collecting(_) => true,
+        session::Place::InData => true,
+        session::Place::Closed => false,
+    }
+}
+
+// Another reply is due.
+fn awaiting(s: session::Session) -> session::Session
+    ensures { λ r. ⌜ r ≡ awaits s ⌝ }
+{
+    let mut after = s;
+    after.ended = true;
+    after
+}
+
+fn finished(s: session::Session) -> session::Session
+    ensures { λ r. ⌜ r ≡ finishes s ⌝ }
+{
+    collecting::at_place(
+        awaiting(s),
+        session::Place::Closed,
+        s.told,
+        collecting::no_characters(),
+    )
+}
+
+fn answered(session: session::Session, length: usize, finished: bool) -> calls::Answer
+    ensures { λ r. ⌜ r ≡ record { refusal = 0; taken = 0; length = length; finished = finished; session = session } ⌝ }
+{
+    calls::Answer {
+        refusal: 0,
+        taken: 0,
+        length,
+        finished,
+        session,
+    }
+}
+
+// Signals the file's end: at most one reply, and finished with the last or at once.
+pub fn end(t: &mut [u8], s: session::Session, room: &mut [u8]) -> calls::Answer
+    ensures { λ r. ⌜ r ≡ endDone s (now (t .entry)) (now (room .entry)) .answer ⌝ }
+    ensures { λ _. ⌜ now (t .exit) ≡ endDone s (now (t .entry)) (now (room .entry)) .table ⌝ }
+    ensures { λ _. ⌜ now (room .exit) ≡ endDone s (now (t .entry)) (now (room .entry)) .room ⌝ }
+{
+    let refusal = lent_refusal(t, room);
+    if refusal != 0 {
+        return refused(refusal, s);
+    }
+    let day = table::day(t);
+    if hearing::is_end_refused(s, day.yymmdd) {
+        return refused(3, s);
+    }
+    let x = scanning::last_ended(s, t);
+    let after = x.session;
+    let reply = x.reply;
+    let place = after.place;
+    if reply.given {
+        let length = put_reply(room, reply);
+        if is_due(place) {
+            return answered(awaiting(after), length, false);
+        }
+        return answered(finished(after), length, true);
+    }
+    let y = events::file_ended(after, t);
+    let over = y.session;
+    let last = y.reply;
+    let length = put_reply(room, last);
+    answered(finished(over), length, true)
+}
