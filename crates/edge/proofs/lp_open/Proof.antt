@@ -1,0 +1,37 @@
+-- The call below is handed what the numbers say, and its session is stored where it is served.
+use Rattle.edge.proofs.Made.{asked-by, opening-made}
+use borrow.Author.Needs.{needs}
+use Rattle.edge.proofs.lp_open.Statement.{statement}
+use Rattle.edge.proofs.lp_open.Tie as tie
+
+kind-asked-requires : tie.Need-kind-asked-requires
+kind-asked-requires c κs = search needs
+
+open-requires : tie.Need-open-requires
+open-requires c κs = search needs
+
+put-opened-requires : tie.Need-put-opened-requires
+put-opened-requires c κs = search needs
+
+same-length : tie.Need-same-length
+same-length c = search needs
+
+same-length-2 : tie.Need-same-length-2
+same-length-2 c = search needs
+
+returns : tie.Need-returns
+returns c =
+    let a = c .before .before .before .before .before .before .before .before .before .before .before .args in
+    let d = c .before .before .before .before .before .before .«open» .ensures in
+    opening-made _ _ (asked-by _ (a .today) (a .time) (a .kind) (a .clock) (c .before .before .before .before .before .before .before .before .kind-asked .ensures)) (d .0) (d .1) (c .before .before .put-opened .ensures)
+
+pub lp-open-spec : {M : Type 1} → statement M
+lp-open-spec =
+    tie.close
+    (tie.spec
+    kind-asked-requires
+    open-requires
+    put-opened-requires
+    same-length
+    same-length-2
+    returns)

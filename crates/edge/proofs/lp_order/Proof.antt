@@ -1,0 +1,21 @@
+-- The call below is handed what the numbers and bytes say.
+use Rattle.edge.specs.Edge.{orderingBy}
+use borrow.Author.Needs.{needs}
+use Rattle.edge.proofs.lp_order.Statement.{statement}
+use Rattle.edge.proofs.lp_order.Tie as tie
+
+fixed25-requires : tie.Need-fixed25-requires
+fixed25-requires c κs = search needs
+
+order-requires : tie.Need-order-requires
+order-requires c κs = search needs
+
+same-length : tie.Need-same-length
+same-length c = search needs
+
+returns : tie.Need-returns
+unfolding orderingBy
+returns c = rw (← c .before .before .before .before .fixed25 .ensures) (c .before .before .order .ensures)
+
+pub lp-order-spec : {M : Type 1} → statement M
+lp-order-spec = tie.close (tie.spec fixed25-requires order-requires same-length returns)

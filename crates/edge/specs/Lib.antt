@@ -1,0 +1,2 @@
+-- What the contracts of `edge` cite.
+pub mod Edge

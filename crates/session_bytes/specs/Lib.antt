@@ -1,0 +1,3 @@
+-- What the contracts of `session_bytes` cite.
+pub mod Session
+pub mod Groups
