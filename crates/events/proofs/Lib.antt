@@ -1,3 +1,4 @@
 -- Laws that belong to no one function.
 pub mod Turns
 pub mod Done
+pub mod Endings

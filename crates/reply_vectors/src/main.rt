@@ -60,6 +60,14 @@ fn keys() -> [Key; 3] {
     ]
 }
 
+fn keyed(pte: bool, bare: bool, code: u32, field: u32, size: usize) {
+    show(answering(pte, bare, code, field, keys()), size);
+}
+
+fn unkeyed() {
+    show(answering(false, true, 1010, 10, no_keys()), 320);
+}
+
 // A code, full or bare as it is, once as an ESI and once as a PTE.
 fn show_code(code: u32) {
     let bare = notice::is_bare(code);
@@ -68,8 +76,8 @@ fn show_code(code: u32) {
     } else {
         say(b"E\n");
     }
-    show(answering(false, bare, code, 10, keys()), 320);
-    show(answering(true, bare, code, 10, keys()), 320);
+    keyed(false, bare, code, 10, 320);
+    keyed(true, bare, code, 10, 320);
 }
 
 // Every code, and some numbers that are none.
@@ -104,22 +112,28 @@ fn show_notices(code: u32) {
     }
 }
 
-// A key is enclosed where there is one and a transport key; the checksum needs a working key. A bare reply has neither.
-fn show_keys(working: Key, bare: bool) {
-    let transport = Key::Is(0x133457799BBCDFF1);
-    let enclosed = Key::Is(0x0E329232EA6D0D73);
+fn enclosing(working: Key, transport: Key, enclosed: Key, bare: bool) {
     show(
         answering(true, bare, 1003, 0, [working, transport, enclosed]),
         320,
     );
-    show(
-        answering(true, bare, 1003, 0, [working, transport, Key::Missing]),
-        320,
-    );
-    show(
-        answering(true, bare, 1003, 0, [working, Key::Missing, enclosed]),
-        320,
-    );
+}
+
+// A key is enclosed where there is one and a transport key; the checksum needs a working key. A bare reply has neither.
+fn show_keys(working: Key, bare: bool) {
+    let transport = Key::Is(0x133457799BBCDFF1);
+    let enclosed = Key::Is(0x0E329232EA6D0D73);
+    enclosing(working, transport, enclosed, bare);
+    enclosing(working, transport, Key::Missing, bare);
+    enclosing(working, Key::Missing, enclosed, bare);
+}
+
+// Rooms one byte too short, and long enough.
+fn show_rooms() {
+    keyed(false, false, 1001, 0, 236);
+    keyed(false, false, 1001, 0, 237);
+    keyed(true, false, 1001, 0, 316);
+    keyed(true, false, 1001, 0, 317);
 }
 
 // The messages of appendix 3, with the customer's identity cut to the 17 characters of its field (18 are printed there): ESI and VAR of the
@@ -212,7 +226,7 @@ fn show_pte() {
 }
 
 fn main() {
-    show(answering(false, true, 1010, 10, no_keys()), 320);
+    unkeyed();
     show_codes();
     show_notices(1010);
     show_notices(1011);
@@ -220,10 +234,7 @@ fn main() {
     show_keys(Key::Missing, false);
     show_keys(Key::Is(0x7CA110454A1A6E57), false);
     show_keys(Key::Is(0x7CA110454A1A6E57), true);
-    show(answering(false, false, 1001, 0, keys()), 236);
-    show(answering(false, false, 1001, 0, keys()), 237);
-    show(answering(true, false, 1001, 0, keys()), 316);
-    show(answering(true, false, 1001, 0, keys()), 317);
+    show_rooms();
     show_customers();
     show_banks();
     show_bank_esi();

@@ -1,5 +1,13 @@
 // Every code of both orders, and every two neighbouring checks that can fail together: each line says what is wrong, then the code and the
 // field that it names. (1015 and 1016, and on a sound table 1017 and 1031, never fail together.)
+//
+// A case is a line of parts between bars: its marks; what is wrong; two texts put into the ESI or VAR before its checksum is made, and one
+// after; two texts put into the SUO. A text follows its place, three digits. The marks: E or F for an ESI or a frame; the data type; 0, or 1
+// to 3 for a SUO that is one record alone; the same for the ESI or VAR; the one-time key (O right, U used, P of even parity, M none held); the
+// data's digest (D, or N where there are no characters).
+ghost use Prim.Native.Nat.{_≤_};
+ghost use lib.ListN.{length};
+
 const WORKING: u64 = 0x0123456789ABCDEF;
 
 const TRANSPORT: u64 = 0xFEDCBA9876543210;
@@ -7,6 +15,8 @@ const TRANSPORT: u64 = 0xFEDCBA9876543210;
 const ONCE: u64 = 0x1313131313131313;
 
 const HELD: u64 = 261112120000001;
+
+const AHEAD: u64 = 261114120000001;
 
 // A text written into a message from a place on.
 fn put(m: [u8; 161], at: usize, s: &[u8]) -> [u8; 161] {
@@ -45,11 +55,6 @@ fn var() -> [u8; 161] {
     put(m, 112, b"13131313131313130123456789ABCDEF")
 }
 
-fn said(name: &[u8]) {
-    io::write_all(1, name);
-    io::write_all(1, b": ");
-}
-
 fn show(f: message::Fault) {
     match f {
         message::Fault::Sound => {
@@ -82,93 +87,133 @@ fn collected(alone: u32, m: [u8; 161]) -> verdict::Collected {
     }
 }
 
-fn alone(t: &[u8], number: u32) {
-    show(verdict::check_esi(t, occasion(1), collected(number, esi())));
+struct Part {
+    from: usize,
+    to: usize,
 }
 
-fn whole(t: &[u8], m: [u8; 161]) {
-    show(verdict::check_esi(t, occasion(1), collected(0, m)));
+// Where the part after so many bars lies; past the last part, an empty one.
+fn part_of(line: &[u8], bars: u32) -> Part
+    ensures { λ r. ⌜ (r .from ≤ r .to) × (r .to ≤ length (now (line .entry))) ⌝ }
+{
+    let mut from = 0;
+    let mut left = bars;
+    let mut i = 0;
+    while i < line.len() {
+        if line[i] == b'|' {
+            if left == 0 {
+                return Part { from: from, to: i };
+            }
+            left -= 1;
+            from = i + 1;
+        }
+        i += 1;
+    }
+    if left == 0 {
+        return Part { from: from, to: i };
+    }
+    Part { from: i, to: i }
 }
 
-// An ESI with one text, and with two, in place of what it has.
-fn changed(t: &[u8], at: usize, s: &[u8]) {
-    whole(t, signed(put(esi(), at, s)));
+// A message with one part of a line put in.
+fn changed(m: [u8; 161], line: &[u8], bars: u32) -> [u8; 161] {
+    let p = part_of(line, bars);
+    let from = p.from;
+    let to = p.to;
+    if to - from < 3 {
+        return m;
+    }
+    let words = from + 3;
+    put(
+        m,
+        text::number(&line[from..words]) as usize,
+        &line[words..to],
+    )
 }
 
-fn twice(t: &[u8], at: usize, s: &[u8], then: usize, u: &[u8]) {
-    whole(t, signed(put(put(esi(), at, s), then, u)));
+// An ESI or VAR as a line changes it.
+fn closed(m: [u8; 161], line: &[u8]) -> [u8; 161] {
+    changed(signed(changed(changed(m, line, 2), line, 3)), line, 4)
 }
 
-fn frame_of(t: &[u8], kind: u32, f: verdict::Frame) {
-    show(verdict::check_frame(t, occasion(kind), f));
+fn digit(b: u8) -> u32 {
+    if b < b'0' {
+        return 0;
+    }
+    (b - b'0') as u32
 }
 
-// A frame of two messages with a one-time key and a digest; a and b are 0, or 1 to 3 for a message of one record alone.
-fn framed_as(
-    t: &[u8],
-    kind: u32,
-    a: u32,
-    s: [u8; 161],
-    b: u32,
-    v: [u8; 161],
-    key: changeover::Key,
-    digest: digest::Answer,
-) {
-    let opening = collected(a, s);
-    let closing = collected(b, v);
-    frame_of(
-        t,
-        kind,
-        verdict::Frame {
-            suo: opening,
-            var: closing,
-            once: key,
-            digest: digest,
-        },
-    );
+fn once_of(mark: u8) -> changeover::Key {
+    match mark {
+        b'U' => changeover::Key::Is(WORKING),
+        b'P' => changeover::Key::Is(0),
+        b'M' => changeover::Key::Missing,
+        _ => changeover::Key::Is(ONCE),
+    }
 }
 
-fn framed(t: &[u8], kind: u32, s: [u8; 161], v: [u8; 161], key: changeover::Key) {
-    framed_as(t, kind, 0, s, 0, v, key, digest::Answer::Is(WORKING));
+fn digest_of(mark: u8) -> digest::Answer {
+    if mark == b'N' {
+        return digest::Answer::NoCharacters;
+    }
+    digest::Answer::Is(WORKING)
 }
 
-// A frame of which one message is one record alone.
-fn framed_alone(t: &[u8], a: u32, b: u32) {
-    let key = changeover::Key::Is(ONCE);
-    framed_as(
-        t,
-        1,
-        a,
-        suo(),
-        b,
-        signed(var()),
-        key,
-        digest::Answer::Is(WORKING),
-    );
+fn esi_case(t: &[u8], line: &[u8], marks: [u8; 6]) {
+    let m = collected(digit(marks[3]), closed(esi(), line));
+    show(verdict::check_esi(t, occasion(digit(marks[1])), m));
 }
 
-// Two texts in the VAR alone.
-fn closing_twice(t: &[u8], at: usize, s: &[u8], then: usize, u: &[u8]) {
-    let key = changeover::Key::Is(ONCE);
-    framed(t, 1, suo(), signed(put(put(var(), at, s), then, u)), key);
+fn frame_of(line: &[u8], marks: [u8; 6]) -> verdict::Frame {
+    let opening = collected(digit(marks[2]), changed(changed(suo(), line, 5), line, 6));
+    let closing = collected(digit(marks[3]), closed(var(), line));
+    let key = once_of(marks[4]);
+    let digest = digest_of(marks[5]);
+    verdict::Frame {
+        suo: opening,
+        var: closing,
+        once: key,
+        digest: digest,
+    }
 }
 
-// The same text in both messages of a frame, and in its VAR alone.
-fn both(t: &[u8], at: usize, s: &[u8]) {
-    let key = changeover::Key::Is(ONCE);
-    framed(t, 1, put(suo(), at, s), signed(put(var(), at, s)), key);
+fn frame_case(t: &[u8], line: &[u8], marks: [u8; 6]) {
+    show(verdict::check_frame(t, occasion(digit(marks[1])), frame_of(line, marks)));
 }
 
-fn closing(t: &[u8], at: usize, s: &[u8]) {
-    let key = changeover::Key::Is(ONCE);
-    framed(t, 1, suo(), signed(put(var(), at, s)), key);
+fn said(line: &[u8]) {
+    let p = part_of(line, 1);
+    let from = p.from;
+    let to = p.to;
+    io::write_all(1, &line[from..to]);
+    io::write_all(1, b": ");
 }
 
-fn keyed(t: &[u8], kind: u32, key: changeover::Key) {
-    framed(t, kind, suo(), signed(var()), key);
+fn judged(t: &[u8], line: &[u8]) {
+    let mut marks = [b' '; 6];
+    text::copy(&mut marks, line);
+    said(line);
+    if marks[0] == b'E' {
+        esi_case(t, line, marks);
+    } else {
+        frame_case(t, line, marks);
+    }
 }
 
-fn customer_of(who: [u8; 25], agreed: bool, count: u32) -> customer::Customer {
+// Each line of some cases.
+fn each(t: &[u8], lines: &[u8]) {
+    let mut start = 0;
+    let mut i = 0;
+    while i < lines.len() {
+        if lines[i] == b'\n' {
+            judged(t, &lines[start..i]);
+            start = i + 1;
+        }
+        i += 1;
+    }
+}
+
+fn customer_of(who: [u8; 25], agreed: bool, count: u32, stamp: u64) -> customer::Customer {
     let none = customer::Previous::Nothing;
     let transport = customer::KeyPair {
         generation: 1,
@@ -189,7 +234,7 @@ fn customer_of(who: [u8; 25], agreed: bool, count: u32) -> customer::Customer {
         transport: transport,
         working: working,
         count: count,
-        stamps: [HELD; 64],
+        stamps: [stamp; 64],
         once: [WORKING; 64],
     }
 }
@@ -208,268 +253,175 @@ fn settings() -> customer::Settings {
 }
 
 fn esi_form(t: &[u8]) {
-    said(b"ESI");
-    changed(t, 0, b">>ESI");
-    said(b"ESI too short");
-    alone(t, 1);
-    said(b"ESI length not digits");
-    alone(t, 2);
-    said(b"ESI length not the layout's");
-    alone(t, 3);
-    said(b"ESI format");
-    changed(t, 16, b"a");
-    said(b"ESI value");
-    changed(t, 8, b"130");
-    said(b"ESI format and value");
-    twice(t, 16, b"a", 8, b"130");
-    said(b"ESI value and version");
-    twice(t, 11, b"K", 8, b"110");
-    said(b"ESI version");
-    changed(t, 8, b"110");
-    said(b"ESI version and receiver");
-    twice(t, 8, b"110", 35, b"X");
+    each(
+        t,
+        b"E100OD|ESI|000>>ESI
+E101OD|ESI too short
+E102OD|ESI length not digits
+E103OD|ESI length not the layout's
+E100OD|ESI format|016a
+E100OD|ESI value|008130
+E100OD|ESI format and value|016a|008130
+E100OD|ESI value and version|011K|008110
+E100OD|ESI version|008110
+E100OD|ESI version and receiver|008110|035X
+",
+    );
 }
 
 fn esi_parties(t: &[u8]) {
-    said(b"ESI receiver");
-    changed(t, 35, b"X");
-    said(b"ESI receiver's qualifier");
-    changed(t, 52, b"X");
-    said(b"ESI receiver and sender");
-    twice(t, 35, b"X", 60, b"X");
-    said(b"ESI sender, who is then not agreed");
-    changed(t, 60, b"X");
-    said(b"ESI sender's qualifier");
-    changed(t, 77, b"X");
-    said(b"ESI agreement");
-    changed(t, 60, b"SECOND  ");
-    said(b"ESI agreement and old date");
-    twice(t, 60, b"SECOND  ", 87, b"261101");
-    said(b"ESI old date");
-    changed(t, 87, b"261101");
-    said(b"ESI old date and transport generation");
-    twice(t, 87, b"261101", 85, b"2");
-    said(b"ESI date ahead");
-    changed(t, 87, b"261114");
-    said(b"ESI date ahead and stamp held");
-    twice(t, 60, b"AHEAD   ", 87, b"261114");
+    each(
+        t,
+        b"E100OD|ESI receiver|035X
+E100OD|ESI receiver's qualifier|052X
+E100OD|ESI receiver and sender|035X|060X
+E100OD|ESI sender, who is then not agreed|060X
+E100OD|ESI sender's qualifier|077X
+E100OD|ESI agreement|060SECOND  
+E100OD|ESI agreement and old date|060SECOND  |087261101
+E100OD|ESI old date|087261101
+E100OD|ESI old date and transport generation|087261101|0852
+E100OD|ESI date ahead|087261114
+E100OD|ESI date ahead and stamp held|060AHEAD   |087261114
+",
+    );
 }
 
 fn esi_keys(t: &[u8]) {
-    said(b"ESI stamp held");
-    changed(t, 87, b"261112");
-    said(b"ESI stamp held and transport generation");
-    twice(t, 87, b"261112", 85, b"2");
-    said(b"ESI transport generation");
-    changed(t, 85, b"2");
-    said(b"ESI both generations");
-    twice(t, 85, b"2", 86, b"2");
-    said(b"ESI working generation, and so no checksum");
-    changed(t, 86, b"2");
-    said(b"ESI checksum");
-    whole(t, put(signed(esi()), 144, b"0000"));
-    said(b"ESI checksum and room");
-    whole(t, put(signed(put(esi(), 60, b"FULL    ")), 144, b"0000"));
-    said(b"ESI room");
-    changed(t, 60, b"FULL    ");
+    each(
+        t,
+        b"E100OD|ESI stamp held|087261112
+E100OD|ESI stamp held and transport generation|087261112|0852
+E100OD|ESI transport generation|0852
+E100OD|ESI both generations|0852|0862
+E100OD|ESI working generation, and so no checksum|0862
+E100OD|ESI checksum|||1440000
+E100OD|ESI checksum and room|060FULL    ||1440000
+E100OD|ESI room|060FULL    
+",
+    );
 }
 
 fn frame_form(t: &[u8]) {
-    let key = changeover::Key::Is(ONCE);
-    said(b"frame");
-    both(t, 102, b"S");
-    said(b"SUO too short");
-    framed_alone(t, 1, 0);
-    said(b"SUO length not digits");
-    framed_alone(t, 2, 0);
-    said(b"SUO length not the layout's, VAR too short");
-    framed_alone(t, 3, 1);
-    said(b"SUO format");
-    framed(t, 1, put(suo(), 102, b"x"), signed(var()), key);
-    said(b"SUO format and value");
-    framed(
+    each(
         t,
-        1,
-        put(put(suo(), 102, b"x"), 11, b"K"),
-        signed(var()),
-        key,
+        b"F100OD|frame|102S|||102S
+F110OD|SUO too short
+F120OD|SUO length not digits
+F131OD|SUO length not the layout's, VAR too short
+F100OD|SUO format||||102x
+F100OD|SUO format and value||||102x|011K
+F100OD|SUO value||||011K
+F101OD|VAR too short
+F102OD|VAR length not digits
+F100OD|VAR format|016a
+F100OD|VAR format and value|016a|011K
+F100OD|VAR value|011K
+F100OD|VAR value and version|011K|||008110
+",
     );
-    said(b"SUO value");
-    framed(t, 1, put(suo(), 11, b"K"), signed(var()), key);
-    said(b"VAR too short");
-    framed_alone(t, 0, 1);
-    said(b"VAR length not digits");
-    framed_alone(t, 0, 2);
-    said(b"VAR format");
-    closing(t, 16, b"a");
-    said(b"VAR format and value");
-    closing_twice(t, 16, b"a", 11, b"K");
-    said(b"VAR value");
-    closing(t, 11, b"K");
-    said(b"VAR value and version");
-    framed(
-        t,
-        1,
-        put(suo(), 8, b"110"),
-        signed(put(var(), 11, b"K")),
-        key,
-    );
-}
-
-// Two texts in both messages of a frame.
-fn paired(t: &[u8], kind: u32, at: usize, s: &[u8], then: usize, u: &[u8], key: changeover::Key) {
-    let opening = put(put(suo(), at, s), then, u);
-    let closing = signed(put(put(var(), at, s), then, u));
-    framed(t, kind, opening, closing, key);
 }
 
 fn frame_parties(t: &[u8]) {
-    let key = changeover::Key::Is(ONCE);
-    said(b"frame version");
-    both(t, 8, b"110");
-    said(b"frame version and receiver");
-    paired(t, 1, 8, b"110", 35, b"X", key);
-    said(b"frame receiver");
-    both(t, 35, b"X");
-    said(b"frame receiver and sender");
-    paired(t, 1, 35, b"X", 60, b"X", key);
-    said(b"frame sender, who is then not agreed");
-    both(t, 60, b"X");
-    said(b"frame agreement");
-    both(t, 60, b"SECOND  ");
-    said(b"frame agreement and data type");
-    paired(t, 2, 60, b"SECOND  ", 8, b"120", key);
-    said(b"frame data type");
-    keyed(t, 2, key);
-    said(b"frame data type and versions");
-    framed(t, 2, suo(), signed(put(var(), 8, b"110")), key);
+    each(
+        t,
+        b"F100OD|frame version|008110|||008110
+F100OD|frame version and receiver|008110|035X||008110|035X
+F100OD|frame receiver|035X|||035X
+F100OD|frame receiver and sender|035X|060X||035X|060X
+F100OD|frame sender, who is then not agreed|060X|||060X
+F100OD|frame agreement|060SECOND  |||060SECOND  
+F200OD|frame agreement and data type|060SECOND  |008120||060SECOND  |008120
+F200OD|frame data type
+F200OD|frame data type and versions|008110
+",
+    );
 }
 
 fn frame_fields(t: &[u8]) {
-    let key = changeover::Key::Is(ONCE);
-    said(b"unequal versions");
-    closing(t, 8, b"110");
-    said(b"unequal versions and receivers");
-    closing_twice(t, 8, b"110", 35, b"X");
-    said(b"unequal receivers");
-    closing(t, 35, b"X");
-    said(b"unequal receivers and senders");
-    closing_twice(t, 35, b"X", 60, b"X");
-    said(b"unequal senders");
-    closing(t, 60, b"X");
-    said(b"unequal senders and one-time keys");
-    closing_twice(t, 60, b"X", 112, b"0");
-    said(b"unequal one-time keys");
-    closing(t, 112, b"0");
-    said(b"unequal one-time keys and transport generations");
-    closing_twice(t, 112, b"0", 85, b"2");
-    said(b"unequal transport generations");
-    closing(t, 85, b"2");
-    said(b"unequal generations");
-    closing(t, 85, b"22");
-    said(b"unequal working generations");
-    closing(t, 86, b"2");
-    said(b"unequal working generations and scopes");
-    closing_twice(t, 86, b"2", 102, b"A");
-    said(b"unequal scopes");
-    closing(t, 102, b"A");
-    said(b"unequal scopes and stamps");
-    closing_twice(t, 102, b"A", 87, b"261112");
-    said(b"unequal stamps");
-    closing(t, 87, b"261112");
-    said(b"unequal stamps and old date");
-    framed(t, 1, put(suo(), 87, b"261101"), signed(var()), key);
+    each(
+        t,
+        b"F100OD|unequal versions|008110
+F100OD|unequal versions and receivers|008110|035X
+F100OD|unequal receivers|035X
+F100OD|unequal receivers and senders|035X|060X
+F100OD|unequal senders|060X
+F100OD|unequal senders and one-time keys|060X|1120
+F100OD|unequal one-time keys|1120
+F100OD|unequal one-time keys and transport generations|1120|0852
+F100OD|unequal transport generations|0852
+F100OD|unequal generations|08522
+F100OD|unequal working generations|0862
+F100OD|unequal working generations and scopes|0862|102A
+F100OD|unequal scopes|102A
+F100OD|unequal scopes and stamps|102A|087261112
+F100OD|unequal stamps|087261112
+F100OD|unequal stamps and old date||||087261101
+",
+    );
 }
 
 fn frame_stamps(t: &[u8]) {
-    let key = changeover::Key::Is(ONCE);
-    let used = changeover::Key::Is(WORKING);
-    said(b"frame old date");
-    both(t, 87, b"261101");
-    said(b"frame old date and transport generation");
-    paired(t, 1, 87, b"261101", 85, b"2", key);
-    said(b"frame date ahead");
-    both(t, 87, b"261114");
-    said(b"frame date ahead and stamp held");
-    paired(t, 1, 60, b"AHEAD   ", 87, b"261114", key);
-    said(b"frame stamp held");
-    both(t, 87, b"261112");
-    said(b"frame stamp held and transport generation");
-    paired(t, 1, 87, b"261112", 85, b"2", key);
-    said(b"frame transport generation");
-    both(t, 85, b"2");
-    said(b"frame, no key held at the SUO's end");
-    keyed(t, 1, changeover::Key::Missing);
-    said(b"frame both generations");
-    paired(t, 1, 85, b"2", 86, b"2", key);
-    said(b"frame working generation");
-    both(t, 86, b"2");
-    said(b"frame working generation and used one-time key");
-    paired(t, 1, 86, b"2", 102, b"S", used);
+    each(
+        t,
+        b"F100OD|frame old date|087261101|||087261101
+F100OD|frame old date and transport generation|087261101|0852||087261101|0852
+F100OD|frame date ahead|087261114|||087261114
+F100OD|frame date ahead and stamp held|060AHEAD   |087261114||060AHEAD   |087261114
+F100OD|frame stamp held|087261112|||087261112
+F100OD|frame stamp held and transport generation|087261112|0852||087261112|0852
+F100OD|frame transport generation|0852|||0852
+F100MD|frame, no key held at the SUO's end
+F100OD|frame both generations|0852|0862||0852|0862
+F100OD|frame working generation|0862|||0862
+F100UD|frame working generation and used one-time key|0862|102S||0862|102S
+",
+    );
 }
 
 fn frame_digests(t: &[u8]) {
-    let key = changeover::Key::Is(ONCE);
-    let used = changeover::Key::Is(WORKING);
-    let even = changeover::Key::Is(0);
-    let wrong = put(signed(var()), 144, b"0000");
-    let full = signed(put(var(), 60, b"FULL    "));
-    said(b"frame used one-time key");
-    keyed(t, 1, used);
-    said(b"frame used one-time key and digest");
-    framed(t, 1, suo(), signed(put(var(), 128, b"1")), used);
-    said(b"frame parity");
-    keyed(t, 1, even);
-    said(b"frame parity and digest");
-    framed(t, 1, suo(), signed(put(var(), 128, b"1")), even);
-    said(b"frame digest");
-    closing(t, 128, b"1");
-    said(b"frame without characters");
-    framed_as(
+    each(
         t,
-        1,
-        0,
-        suo(),
-        0,
-        signed(var()),
-        key,
-        digest::Answer::NoCharacters,
+        b"F100UD|frame used one-time key
+F100UD|frame used one-time key and digest|1281
+F100PD|frame parity
+F100PD|frame parity and digest|1281
+F100OD|frame digest|1281
+F100ON|frame without characters
+F100OD|frame digest and checksum|||1281123456789ABCDEF0000
+F100OD|frame checksum|||1440000
+F100OD|frame checksum and room|060FULL    ||1440000|060FULL    
+F100OD|frame room|060FULL    |||060FULL    
+",
     );
-    said(b"frame digest and checksum");
-    framed(t, 1, suo(), put(wrong, 128, b"1"), key);
-    said(b"frame checksum");
-    framed(t, 1, suo(), wrong, key);
-    said(b"frame checksum and room");
-    framed(
-        t,
-        1,
-        put(suo(), 60, b"FULL    "),
-        put(full, 144, b"0000"),
-        key,
-    );
-    said(b"frame room");
-    both(t, 60, b"FULL    ");
+}
+
+fn judge(t: &[u8]) {
+    esi_form(t);
+    esi_parties(t);
+    esi_keys(t);
+    frame_form(t);
+    frame_parties(t);
+    frame_fields(t);
+    frame_stamps(t);
+    frame_digests(t);
+}
+
+fn served(t: &mut [u8]) {
+    let day = calendar::Date { yymmdd: 261113 };
+    table::set_up(t, day, settings(), &[261106]);
+}
+
+fn joined(t: &mut [u8], who: [u8; 25], agreed: bool, count: u32, stamp: u64) {
+    table::add(t, customer_of(who, agreed, count, stamp));
 }
 
 fn main() {
     let mut t = [0u8; 49152];
-    let day = calendar::Date { yymmdd: 261113 };
-    let first = customer_of(*b"CUSTOMER         BRANCH  ", true, 1);
-    let second = customer_of(*b"SECOND           BRANCH  ", false, 1);
-    let full = customer_of(*b"FULL             BRANCH  ", true, 64);
-    let mut ahead = customer_of(*b"AHEAD            BRANCH  ", true, 1);
-    ahead.stamps[0] = 261114120000001;
-    table::set_up(&mut t, day, settings(), &[261106]);
-    table::add(&mut t, first);
-    table::add(&mut t, second);
-    table::add(&mut t, full);
-    table::add(&mut t, ahead);
-    esi_form(&t);
-    esi_parties(&t);
-    esi_keys(&t);
-    frame_form(&t);
-    frame_parties(&t);
-    frame_fields(&t);
-    frame_stamps(&t);
-    frame_digests(&t);
+    served(&mut t);
+    joined(&mut t, *b"CUSTOMER         BRANCH  ", true, 1, HELD);
+    joined(&mut t, *b"SECOND           BRANCH  ", false, 1, HELD);
+    joined(&mut t, *b"FULL             BRANCH  ", true, 64, HELD);
+    joined(&mut t, *b"AHEAD            BRANCH  ", true, 1, AHEAD);
+    judge(&t);
 }

@@ -120,6 +120,11 @@ impl File {
         }
     }
 
+    /// A file as it stands after that many bytes, for the size limit.
+    pub fn set_seen(&mut self, seen: u64) {
+        self.seen = seen;
+    }
+
     pub fn has_ended(&self) -> bool {
         self.due.is_some()
     }

@@ -2,19 +2,18 @@
 use borrow.Author.Tests.{eq-eqb, ne-eqb}
 use Rattle.acceptance.specs.Grants.{underPrevious}
 use Rattle.acceptance.proofs.Grants.{here, there}
-use borrow.Author.Needs.{needs}
 use Rattle.acceptance.proofs.under_previous.Statement.{statement}
 use Rattle.acceptance.proofs.under_previous.Tie as tie
 
 without-key-requires : tie.Need-without-key-requires
-without-key-requires c κs = search needs
+without-key-requires c κs = tt
 
 returns : tie.Need-returns
 unfolding underPrevious
 returns c = here _ _ _ _ (eq-eqb _ _ (c .before .if1 .taken)) (c .without-key .ensures)
 
 without-key-requires-2 : tie.Need-without-key-requires-2
-without-key-requires-2 c κs = search needs
+without-key-requires-2 c κs = tt
 
 returns-2 : tie.Need-returns-2
 unfolding underPrevious
@@ -22,7 +21,7 @@ returns-2 c =
     there _ _ _ _ (ne-eqb _ _ (c .before .before .if1 .left)) (here _ _ _ _ (eq-eqb _ _ (c .before .if2 .taken)) (c .without-key2 .ensures))
 
 without-key-requires-3 : tie.Need-without-key-requires-3
-without-key-requires-3 c κs = search needs
+without-key-requires-3 c κs = tt
 
 returns-3 : tie.Need-returns-3
 unfolding underPrevious

@@ -1,11 +1,10 @@
 -- The answer is the bare one.
 use Rattle.session.specs.Events.{bareTurn, replies}
-use borrow.Author.Needs.{needs}
 use Rattle.events.proofs.bare.Statement.{statement}
 use Rattle.events.proofs.bare.Tie as tie
 
 bare-answer-requires : tie.Need-bare-answer-requires
-bare-answer-requires c κs = search needs
+bare-answer-requires c κs = tt
 
 returns : tie.Need-returns
 unfolding bareTurn replies

@@ -11,22 +11,22 @@ enum-told : tie.Need-enum-told
 enum-told c = search needs
 
 esi-on-requires : tie.Need-esi-on-requires
-esi-on-requires c κs = search needs
+esi-on-requires c κs = tt
 
 enum-told-2 : tie.Need-enum-told-2
 enum-told-2 c = search needs
 
 suo-on-requires : tie.Need-suo-on-requires
-suo-on-requires c κs = search needs
+suo-on-requires c κs = tt
 
 quiet-requires : tie.Need-quiet-requires
-quiet-requires c κs = search needs
+quiet-requires c κs = tt
 
 enum-told-3 : tie.Need-enum-told-3
 enum-told-3 c = search needs
 
 var-on-requires : tie.Need-var-on-requires
-var-on-requires c κs = search needs
+var-on-requires c κs = tt
 
 same-length : tie.Need-same-length
 same-length c = search needs

@@ -11,22 +11,22 @@ enum-told : tie.Need-enum-told
 enum-told c = search needs
 
 esi-done-requires : tie.Need-esi-done-requires
-esi-done-requires c κs = search needs
+esi-done-requires c κs = tt
 
 enum-told-2 : tie.Need-enum-told-2
 enum-told-2 c = search needs
 
 closed-at-requires : tie.Need-closed-at-requires
-closed-at-requires c κs = search needs
+closed-at-requires c κs = tt
 
 bare-requires : tie.Need-bare-requires
-bare-requires c κs = search needs
+bare-requires c κs = tt
 
 enum-told-3 : tie.Need-enum-told-3
 enum-told-3 c = search needs
 
 var-done-requires : tie.Need-var-done-requires
-var-done-requires c κs = search needs
+var-done-requires c κs = tt
 
 same-length : tie.Need-same-length
 same-length c = search needs

@@ -1,23 +1,22 @@
 -- The digest has one record more.
 use Rattle.events.proofs.Done.{data-made}
-use borrow.Author.Needs.{needs}
 use Rattle.events.proofs.data_taken.Statement.{statement}
 use Rattle.events.proofs.data_taken.Tie as tie
 
 method-requires : tie.Need-method-requires
-method-requires c κs = search needs
+method-requires c κs = tt
 
 end-record-requires : tie.Need-end-record-requires
-end-record-requires c κs = search needs
+end-record-requires c κs = tt
 
 no-characters-requires : tie.Need-no-characters-requires
-no-characters-requires c κs = search needs
+no-characters-requires c κs = tt
 
 at-place-requires : tie.Need-at-place-requires
-at-place-requires c κs = search needs
+at-place-requires c κs = tt
 
 with-batch-requires : tie.Need-with-batch-requires
-with-batch-requires c κs = search needs
+with-batch-requires c κs = tt
 
 returns : tie.Need-returns
 returns c = data-made _ (c .before .before .no-characters .ensures) (c .before .at-place .ensures) (c .before .before .before .before .method .ensures) (c .before .before .before .end-record .ensures) (c .with-batch .ensures)

@@ -5,28 +5,28 @@ use Rattle.events.proofs.esi_done.Statement.{statement}
 use Rattle.events.proofs.esi_done.Tie as tie
 
 collected-by-requires : tie.Need-collected-by-requires
-collected-by-requires c κs = search needs
+collected-by-requires c κs = tt
 
 occasion-of-requires : tie.Need-occasion-of-requires
-occasion-of-requires c κs = search needs
+occasion-of-requires c κs = tt
 
 judge-esi-requires : tie.Need-judge-esi-requires
-judge-esi-requires c κs = search needs
+judge-esi-requires c κs = tt
 
 verdict-answer-requires : tie.Need-verdict-answer-requires
-verdict-answer-requires c κs = search needs
+verdict-answer-requires c κs = tt
 
 is-accepted-requires : tie.Need-is-accepted-requires
-is-accepted-requires c κs = search needs
+is-accepted-requires c κs = tt
 
 place-after-esi-requires : tie.Need-place-after-esi-requires
-place-after-esi-requires c κs = search needs
+place-after-esi-requires c κs = tt
 
 sender-requires : tie.Need-sender-requires
-sender-requires c κs = search needs
+sender-requires c κs = tt
 
 after-verdict-requires : tie.Need-after-verdict-requires
-after-verdict-requires c κs = search needs
+after-verdict-requires c κs = tt
 
 same-length : tie.Need-same-length
 same-length c = search needs

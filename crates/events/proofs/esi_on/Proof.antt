@@ -6,20 +6,20 @@ use Rattle.events.proofs.esi_on.Statement.{statement}
 use Rattle.events.proofs.esi_on.Tie as tie
 
 wants-more-requires : tie.Need-wants-more-requires
-wants-more-requires c κs = search needs
+wants-more-requires c κs = tt
 
 keeps-on-requires : tie.Need-keeps-on-requires
-keeps-on-requires c κs = search needs
+keeps-on-requires c κs = tt
 
 quiet-requires : tie.Need-quiet-requires
-quiet-requires c κs = search needs
+quiet-requires c κs = tt
 
 returns : tie.Need-returns
 unfolding esiOn
 returns c = taken (Gives _ _) _ _ _ _ (c .before .before .before .wants-more .ensures) (c .before .before .if1 .taken) (quietly _ (c .quiet .ensures) (c .before .keeps-on .ensures))
 
 esi-done-requires : tie.Need-esi-done-requires
-esi-done-requires c κs = search needs
+esi-done-requires c κs = tt
 
 same-length : tie.Need-same-length
 same-length c = search needs

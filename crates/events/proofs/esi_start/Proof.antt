@@ -9,10 +9,10 @@ use Rattle.events.proofs.esi_start.Statement.{statement}
 use Rattle.events.proofs.esi_start.Tie as tie
 
 alone-of-requires : tie.Need-alone-of-requires
-alone-of-requires c κs = search needs
+alone-of-requires c κs = tt
 
 esi-on-requires : tie.Need-esi-on-requires
-esi-on-requires c κs = search needs
+esi-on-requires c κs = tt
 
 same-length : tie.Need-same-length
 same-length c = search needs
@@ -22,7 +22,7 @@ unfolding esiStart aloneBy
 returns c = goes-on (Gives _ _) _ (λ (n : ℕ). esiDone (c .before .before .before .before .before .before .before .before .args .s) (now (c .before .before .before .before .before .before .before .before .args .t)) (collectedBy Esi n (c .before .before .before .before .before .before .before .before .args .s .gathered))) _ _ (c .before .before .before .before .before .alone-of .ensures) (c .before .before .before .before .if1 .taken) (c .before .before .esi-on .ensures)
 
 esi-done-requires : tie.Need-esi-done-requires
-esi-done-requires c κs = search needs
+esi-done-requires c κs = tt
 
 same-length-2 : tie.Need-same-length-2
 same-length-2 c = search needs

@@ -12,34 +12,34 @@ enum-told : tie.Need-enum-told
 enum-told c = search needs
 
 quiet-requires : tie.Need-quiet-requires
-quiet-requires c κs = search needs
+quiet-requires c κs = tt
 
 enum-told-2 : tie.Need-enum-told-2
 enum-told-2 c = search needs
 
 quiet-requires-2 : tie.Need-quiet-requires-2
-quiet-requires-2 c κs = search needs
+quiet-requires-2 c κs = tt
 
 enum-known-place : tie.Need-enum-known-place
 enum-known-place c = search needs
 
 cut-short-requires : tie.Need-cut-short-requires
-cut-short-requires c κs = search needs
+cut-short-requires c κs = tt
 
 enum-told-3 : tie.Need-enum-told-3
 enum-told-3 c = search needs
 
 closed-at-requires : tie.Need-closed-at-requires
-closed-at-requires c κs = search needs
+closed-at-requires c κs = tt
 
 bare-requires : tie.Need-bare-requires
-bare-requires c κs = search needs
+bare-requires c κs = tt
 
 enum-told-4 : tie.Need-enum-told-4
 enum-told-4 c = search needs
 
 quiet-requires-3 : tie.Need-quiet-requires-3
-quiet-requires-3 c κs = search needs
+quiet-requires-3 c κs = tt
 
 returns : tie.Need-returns
 unfolding fileEnded finishedIn

@@ -6,10 +6,10 @@ use Rattle.events.proofs.first_ends.Statement.{statement}
 use Rattle.events.proofs.first_ends.Tie as tie
 
 begins-esi-requires : tie.Need-begins-esi-requires
-begins-esi-requires c κs = search needs
+begins-esi-requires c κs = tt
 
 esi-start-requires : tie.Need-esi-start-requires
-esi-start-requires c κs = search needs
+esi-start-requires c κs = tt
 
 same-length : tie.Need-same-length
 same-length c = search needs
@@ -19,10 +19,10 @@ unfolding firstEnds
 returns c = taken (Gives _ _) _ _ _ _ (c .before .before .before .before .before .begins-esi .ensures) (c .before .before .before .before .if1 .taken) (c .before .before .esi-start .ensures)
 
 closed-at-requires : tie.Need-closed-at-requires
-closed-at-requires c κs = search needs
+closed-at-requires c κs = tt
 
 bare-requires : tie.Need-bare-requires
-bare-requires c κs = search needs
+bare-requires c κs = tt
 
 same-length-2 : tie.Need-same-length-2
 same-length-2 c = search needs

@@ -11,10 +11,10 @@ enum-known-k : tie.Need-enum-known-k
 enum-known-k c = search needs
 
 once-field-requires : tie.Need-once-field-requires
-once-field-requires c κs = search needs
+once-field-requires c κs = tt
 
 decipher-requires : tie.Need-decipher-requires
-decipher-requires c κs = search needs
+decipher-requires c κs = tt
 
 returns : tie.Need-returns
 unfolding oneTime

@@ -5,16 +5,16 @@ use Rattle.events.proofs.one_time_of.Statement.{statement}
 use Rattle.events.proofs.one_time_of.Tie as tie
 
 sender-requires : tie.Need-sender-requires
-sender-requires c κs = search needs
+sender-requires c κs = tt
 
 find-requires : tie.Need-find-requires
 find-requires c κs = search needs
 
 transport-held-requires : tie.Need-transport-held-requires
-transport-held-requires c κs = search needs
+transport-held-requires c κs = tt
 
 one-time-requires : tie.Need-one-time-requires
-one-time-requires c κs = search needs
+one-time-requires c κs = tt
 
 returns : tie.Need-returns
 returns c = once-made _ _ (c .before .before .before .sender .ensures) (c .before .before .find .ensures) (c .before .transport-held .ensures) (c .one-time .ensures)

@@ -1,11 +1,10 @@
 -- No reply stands where none is given.
 use Rattle.session.specs.Events.{silent}
-use borrow.Author.Needs.{needs}
 use Rattle.events.proofs.quiet.Statement.{statement}
 use Rattle.events.proofs.quiet.Tie as tie
 
 no-reply-requires : tie.Need-no-reply-requires
-no-reply-requires c κs = search needs
+no-reply-requires c κs = tt
 
 returns : tie.Need-returns
 unfolding silent

@@ -12,31 +12,31 @@ enum-told : tie.Need-enum-told
 enum-told c = search needs
 
 first-ends-requires : tie.Need-first-ends-requires
-first-ends-requires c κs = search needs
+first-ends-requires c κs = tt
 
 enum-told-2 : tie.Need-enum-told-2
 enum-told-2 c = search needs
 
 outside-ends-requires : tie.Need-outside-ends-requires
-outside-ends-requires c κs = search needs
+outside-ends-requires c κs = tt
 
 enum-known-place : tie.Need-enum-known-place
 enum-known-place c = search needs
 
 collecting-ends-requires : tie.Need-collecting-ends-requires
-collecting-ends-requires c κs = search needs
+collecting-ends-requires c κs = tt
 
 enum-told-3 : tie.Need-enum-told-3
 enum-told-3 c = search needs
 
 frame-ends-requires : tie.Need-frame-ends-requires
-frame-ends-requires c κs = search needs
+frame-ends-requires c κs = tt
 
 enum-told-4 : tie.Need-enum-told-4
 enum-told-4 c = search needs
 
 quiet-requires : tie.Need-quiet-requires
-quiet-requires c κs = search needs
+quiet-requires c κs = tt
 
 same-length : tie.Need-same-length
 same-length c = search needs

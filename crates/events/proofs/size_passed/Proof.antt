@@ -13,46 +13,46 @@ enum-told : tie.Need-enum-told
 enum-told c = search needs
 
 closed-at-requires : tie.Need-closed-at-requires
-closed-at-requires c κs = search needs
+closed-at-requires c κs = tt
 
 bare-requires : tie.Need-bare-requires
-bare-requires c κs = search needs
+bare-requires c κs = tt
 
 enum-told-2 : tie.Need-enum-told-2
 enum-told-2 c = search needs
 
 closed-at-requires-2 : tie.Need-closed-at-requires-2
-closed-at-requires-2 c κs = search needs
+closed-at-requires-2 c κs = tt
 
 bare-requires-2 : tie.Need-bare-requires-2
-bare-requires-2 c κs = search needs
+bare-requires-2 c κs = tt
 
 enum-known-place : tie.Need-enum-known-place
 enum-known-place c = search needs
 
 is-esi-requires : tie.Need-is-esi-requires
-is-esi-requires c κs = search needs
+is-esi-requires c κs = tt
 
 closed-at-requires-3 : tie.Need-closed-at-requires-3
-closed-at-requires-3 c κs = search needs
+closed-at-requires-3 c κs = tt
 
 bare-requires-3 : tie.Need-bare-requires-3
-bare-requires-3 c κs = search needs
+bare-requires-3 c κs = tt
 
 enum-told-3 : tie.Need-enum-told-3
 enum-told-3 c = search needs
 
 closed-at-requires-4 : tie.Need-closed-at-requires-4
-closed-at-requires-4 c κs = search needs
+closed-at-requires-4 c κs = tt
 
 bare-requires-4 : tie.Need-bare-requires-4
-bare-requires-4 c κs = search needs
+bare-requires-4 c κs = tt
 
 enum-told-4 : tie.Need-enum-told-4
 enum-told-4 c = search needs
 
 quiet-requires : tie.Need-quiet-requires
-quiet-requires c κs = search needs
+quiet-requires c κs = tt
 
 returns : tie.Need-returns
 unfolding passed passedIn

@@ -1,29 +1,28 @@
 -- The frame opened is made of what the calls give.
 use Rattle.events.proofs.Done.{suo-made}
-use borrow.Author.Needs.{needs}
 use Rattle.events.proofs.suo_done.Statement.{statement}
 use Rattle.events.proofs.suo_done.Tie as tie
 
 collected-by-requires : tie.Need-collected-by-requires
-collected-by-requires c κs = search needs
+collected-by-requires c κs = tt
 
 one-time-of-requires : tie.Need-one-time-of-requires
-one-time-of-requires c κs = search needs
+one-time-of-requires c κs = tt
 
 start-requires : tie.Need-start-requires
-start-requires c κs = search needs
+start-requires c κs = tt
 
 at-record-requires : tie.Need-at-record-requires
-at-record-requires c κs = search needs
+at-record-requires c κs = tt
 
 no-characters-requires : tie.Need-no-characters-requires
-no-characters-requires c κs = search needs
+no-characters-requires c κs = tt
 
 at-place-requires : tie.Need-at-place-requires
-at-place-requires c κs = search needs
+at-place-requires c κs = tt
 
 with-batch-requires : tie.Need-with-batch-requires
-with-batch-requires c κs = search needs
+with-batch-requires c κs = tt
 
 returns : tie.Need-returns
 returns c = suo-made _ (c .before .before .no-characters .ensures) (c .before .at-place .ensures) _ _ (c .before .before .before .before .before .before .before .collected-by .ensures) (c .before .before .before .before .before .one-time-of .ensures) (c .before .before .before .before .start .ensures) (c .before .before .before .at-record .ensures) (c .with-batch .ensures)

@@ -2,22 +2,21 @@
 use mathlib.Core.Path.{_≡_}
 use Rattle.events.proofs.Turns.{taken, left}
 use Rattle.session.specs.Events.{suoOn}
-use borrow.Author.Needs.{needs}
 use Rattle.events.proofs.suo_on.Statement.{statement}
 use Rattle.events.proofs.suo_on.Tie as tie
 
 wants-more-requires : tie.Need-wants-more-requires
-wants-more-requires c κs = search needs
+wants-more-requires c κs = tt
 
 keeps-on-requires : tie.Need-keeps-on-requires
-keeps-on-requires c κs = search needs
+keeps-on-requires c κs = tt
 
 returns : tie.Need-returns
 unfolding suoOn
 returns c = taken (_≡_ _) _ _ _ _ (c .before .before .wants-more .ensures) (c .before .if1 .taken) (c .keeps-on .ensures)
 
 suo-done-requires : tie.Need-suo-done-requires
-suo-done-requires c κs = search needs
+suo-done-requires c κs = tt
 
 returns-2 : tie.Need-returns-2
 unfolding suoOn

@@ -5,22 +5,21 @@ use Rattle.message.specs.declared.Kind.the-variants.{Suo}
 use mathlib.Core.Path.{_≡_}
 use Rattle.events.proofs.Turns.{goes-on, alone}
 use Rattle.session.specs.Events.{aloneBy, collectedBy, suoDone, suoStart}
-use borrow.Author.Needs.{needs}
 use Rattle.events.proofs.suo_start.Statement.{statement}
 use Rattle.events.proofs.suo_start.Tie as tie
 
 alone-of-requires : tie.Need-alone-of-requires
-alone-of-requires c κs = search needs
+alone-of-requires c κs = tt
 
 suo-on-requires : tie.Need-suo-on-requires
-suo-on-requires c κs = search needs
+suo-on-requires c κs = tt
 
 returns : tie.Need-returns
 unfolding suoStart aloneBy
 returns c = goes-on (_≡_ _) _ (λ (n : ℕ). suoDone (c .before .before .before .before .before .args .s) (now (c .before .before .before .before .before .args .t)) (collectedBy Suo n (c .before .before .before .before .before .args .s .gathered))) _ _ (c .before .before .alone-of .ensures) (c .before .if1 .taken) (c .suo-on .ensures)
 
 suo-done-requires : tie.Need-suo-done-requires
-suo-done-requires c κs = search needs
+suo-done-requires c κs = tt
 
 returns-2 : tie.Need-returns-2
 unfolding suoStart aloneBy

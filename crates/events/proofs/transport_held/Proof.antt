@@ -8,13 +8,13 @@ enum-known-place : tie.Need-enum-known-place
 enum-known-place c = search needs
 
 load-requires : tie.Need-load-requires
-load-requires c κs = search needs
+load-requires c κs = tt
 
 transport-generation-requires : tie.Need-transport-generation-requires
-transport-generation-requires c κs = search needs
+transport-generation-requires c κs = tt
 
 held-requires : tie.Need-held-requires
-held-requires c κs = search needs
+held-requires c κs = tt
 
 enum-told : tie.Need-enum-told
 enum-told c = search needs

@@ -5,22 +5,22 @@ use Rattle.events.proofs.var_done.Statement.{statement}
 use Rattle.events.proofs.var_done.Tie as tie
 
 collected-by-requires : tie.Need-collected-by-requires
-collected-by-requires c κs = search needs
+collected-by-requires c κs = tt
 
 occasion-of-requires : tie.Need-occasion-of-requires
-occasion-of-requires c κs = search needs
+occasion-of-requires c κs = tt
 
 frame-by-requires : tie.Need-frame-by-requires
-frame-by-requires c κs = search needs
+frame-by-requires c κs = tt
 
 judge-frame-requires : tie.Need-judge-frame-requires
-judge-frame-requires c κs = search needs
+judge-frame-requires c κs = tt
 
 verdict-answer-requires : tie.Need-verdict-answer-requires
-verdict-answer-requires c κs = search needs
+verdict-answer-requires c κs = tt
 
 after-verdict-requires : tie.Need-after-verdict-requires
-after-verdict-requires c κs = search needs
+after-verdict-requires c κs = tt
 
 same-length : tie.Need-same-length
 same-length c = search needs

@@ -6,20 +6,20 @@ use Rattle.events.proofs.var_on.Statement.{statement}
 use Rattle.events.proofs.var_on.Tie as tie
 
 wants-more-requires : tie.Need-wants-more-requires
-wants-more-requires c κs = search needs
+wants-more-requires c κs = tt
 
 keeps-on-requires : tie.Need-keeps-on-requires
-keeps-on-requires c κs = search needs
+keeps-on-requires c κs = tt
 
 quiet-requires : tie.Need-quiet-requires
-quiet-requires c κs = search needs
+quiet-requires c κs = tt
 
 returns : tie.Need-returns
 unfolding varOn
 returns c = taken (Gives _ _) _ _ _ _ (c .before .before .before .wants-more .ensures) (c .before .before .if1 .taken) (quietly _ (c .quiet .ensures) (c .before .keeps-on .ensures))
 
 var-done-requires : tie.Need-var-done-requires
-var-done-requires c κs = search needs
+var-done-requires c κs = tt
 
 same-length : tie.Need-same-length
 same-length c = search needs

@@ -9,10 +9,10 @@ use Rattle.events.proofs.var_start.Statement.{statement}
 use Rattle.events.proofs.var_start.Tie as tie
 
 alone-of-requires : tie.Need-alone-of-requires
-alone-of-requires c κs = search needs
+alone-of-requires c κs = tt
 
 var-on-requires : tie.Need-var-on-requires
-var-on-requires c κs = search needs
+var-on-requires c κs = tt
 
 same-length : tie.Need-same-length
 same-length c = search needs
@@ -22,7 +22,7 @@ unfolding varStart aloneBy
 returns c = goes-on (Gives _ _) _ (λ (n : ℕ). varDone (c .before .before .before .before .before .before .before .before .args .s) (now (c .before .before .before .before .before .before .before .before .args .t)) (collectedBy Var n (c .before .before .before .before .before .before .before .before .args .s .gathered))) _ _ (c .before .before .before .before .before .alone-of .ensures) (c .before .before .before .before .if1 .taken) (c .before .before .var-on .ensures)
 
 var-done-requires : tie.Need-var-done-requires
-var-done-requires c κs = search needs
+var-done-requires c κs = tt
 
 same-length-2 : tie.Need-same-length-2
 same-length-2 c = search needs

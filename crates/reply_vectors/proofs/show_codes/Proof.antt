@@ -15,7 +15,7 @@ loop-holds : tie.Need-loop-holds Inv-loop μ-loop
 loop-holds c = omega arith
 
 show-code-requires : tie.Need-show-code-requires Inv-loop μ-loop
-show-code-requires c κs = search needs
+show-code-requires c κs = tt
 
 add-code : tie.Need-add-code Inv-loop μ-loop
 add-code c = omega arith

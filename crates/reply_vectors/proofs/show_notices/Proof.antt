@@ -15,7 +15,7 @@ loop-holds : tie.Need-loop-holds Inv-loop μ-loop
 loop-holds c = omega arith
 
 show-notice-requires : tie.Need-show-notice-requires Inv-loop μ-loop
-show-notice-requires c κs = search needs
+show-notice-requires c κs = tt
 
 add-field : tie.Need-add-field Inv-loop μ-loop
 add-field c = omega arith

@@ -1,0 +1,19 @@
+-- The call below promises the same.
+use borrow.Author.Needs.{needs}
+use Rattle.front.proofs.end.Statement.{statement}
+use Rattle.front.proofs.end.Tie as tie
+
+end-requires : tie.Need-end-requires
+end-requires c κs = tt
+
+same-length : tie.Need-same-length
+same-length c = search needs
+
+same-length-2 : tie.Need-same-length-2
+same-length-2 c = search needs
+
+returns : tie.Need-returns
+returns c = c .before .before .before .before .end .ensures
+
+pub end-spec : {M : Type 1} → statement M
+end-spec = tie.close (tie.spec end-requires same-length same-length-2 returns)

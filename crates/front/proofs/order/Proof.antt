@@ -1,0 +1,16 @@
+-- The call below promises the same.
+use borrow.Author.Needs.{needs}
+use Rattle.front.proofs.order.Statement.{statement}
+use Rattle.front.proofs.order.Tie as tie
+
+order-requires : tie.Need-order-requires
+order-requires c κs = tt
+
+same-length : tie.Need-same-length
+same-length c = search needs
+
+returns : tie.Need-returns
+returns c = c .before .before .order .ensures
+
+pub order-spec : {M : Type 1} → statement M
+order-spec = tie.close (tie.spec order-requires same-length returns)

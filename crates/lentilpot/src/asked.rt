@@ -1,0 +1,180 @@
+// The words of the command line, each in its form; where one is not, a line says what is expected.
+use crate::say;
+
+// An identity or a bank with its qualifier.
+pub struct Named {
+    pub good: bool,
+    pub who: [u8; 25],
+}
+
+pub struct Titled {
+    pub good: bool,
+    pub name: [u8; 16],
+}
+
+fn is_whole(i: usize) -> bool {
+    let mut word = io::buffer();
+    os::arg(i, &mut word);
+    os::errno() == 0
+}
+
+// Whether every word fits where it is put.
+pub fn are_whole() -> bool {
+    let n = os::arg_count();
+    let mut i = 1;
+    while i < n {
+        if !is_whole(i) {
+            say::err(b"lentilpot: a word is too long: expected words of at most 4096 bytes\n");
+            return false;
+        }
+        i += 1;
+    }
+    true
+}
+
+// Whether there are as many words as the command takes; the two that come before them are the program and the command.
+pub fn are_as_many(low: usize, high: usize, words: &[u8]) -> bool {
+    let n = os::arg_count();
+    if n < low {
+        say::err(b"lentilpot: too few words: expected ");
+        say::err(words);
+        return false;
+    }
+    if high < n {
+        say::err(b"lentilpot: too many words: expected ");
+        say::err(words);
+        return false;
+    }
+    true
+}
+
+// Whether a word can name a file. The files beside it have longer names, so this one ends early.
+pub fn is_file(name: &[u8], word: &[u8]) -> bool {
+    if word.len() == 0 {
+        say::expected(name, b"the name of a file, not an empty word");
+        return false;
+    }
+    if 4000 < word.len() {
+        say::expected(name, b"the name of a file, of at most 4000 bytes");
+        return false;
+    }
+    true
+}
+
+// A word of `low` to `high` digits.
+pub fn digits(i: usize, low: usize, high: usize, name: &[u8], what: &[u8]) -> words::Number {
+    let mut word = io::buffer();
+    let n = os::arg(i, &mut word);
+    let value = words::digits(&word[..n], low, high);
+    if let words::Number::Bad = value {
+        say::expected(name, what);
+    }
+    value
+}
+
+pub fn date(i: usize) -> words::Number {
+    digits(i, 6, 6, b"DATE", b"six digits yymmdd")
+}
+
+pub fn generation(i: usize) -> words::Number {
+    digits(i, 1, 1, b"GENERATION", b"one digit")
+}
+
+// A key, a clock value or a check value.
+pub fn block(i: usize, width: usize, name: &[u8], what: &[u8]) -> words::Block {
+    let mut word = io::buffer();
+    let n = os::arg(i, &mut word);
+    let value = words::hex_digits(&word[..n], width);
+    if let words::Block::Wrong = value {
+        say::expected(name, what);
+    }
+    value
+}
+
+pub fn key(i: usize, name: &[u8]) -> words::Block {
+    block(i, 16, name, b"16 hex digits, 0-9 and A-F")
+}
+
+pub fn check(i: usize) -> words::Block {
+    block(i, 6, b"CHECK", b"6 hex digits, 0-9 and A-F")
+}
+
+pub fn choice(i: usize, name: &[u8]) -> words::Number {
+    let mut word = io::buffer();
+    let n = os::arg(i, &mut word);
+    let value = words::choice(&word[..n]);
+    if let words::Number::Bad = value {
+        say::expected(name, b"yes or no");
+    }
+    value
+}
+
+pub fn types(i: usize) -> words::Number {
+    let mut word = io::buffer();
+    let n = os::arg(i, &mut word);
+    let value = words::types(&word[..n]);
+    if let words::Number::Bad = value {
+        say::expected(b"TYPES", b"types from 1 to 16 as 1,3,16, or - for none");
+    }
+    value
+}
+
+// Bytes a read; all that is read at once where the word is left out.
+pub fn read_size(i: usize) -> words::Number {
+    if os::arg_count() <= i {
+        return words::Number::Is(65536);
+    }
+    let mut word = io::buffer();
+    let n = os::arg(i, &mut word);
+    let value = words::read_size(&word[..n]);
+    if let words::Number::Bad = value {
+        say::expected(b"READ", b"a number from 1 to 65536");
+    }
+    value
+}
+
+// Two words, from word i on.
+pub fn who(i: usize, name: &[u8]) -> Named {
+    let mut identity = io::buffer();
+    let n = os::arg(i, &mut identity);
+    if !words::fits(&identity[..n], 17) {
+        say::expected(name, b"at most 17 characters");
+        return Named {
+            good: false,
+            who: [0; 25],
+        };
+    }
+    let mut qualifier = io::buffer();
+    let m = os::arg(next(i), &mut qualifier);
+    if !words::fits(&qualifier[..m], 8) {
+        say::expected(b"QUALIFIER", b"at most 8 characters, \"\" for a blank one");
+        return Named {
+            good: false,
+            who: [0; 25],
+        };
+    }
+    Named {
+        good: true,
+        who: words::who(&identity[..n], &qualifier[..m]),
+    }
+}
+
+fn next(i: usize) -> usize {
+    if i < 100 { i + 1 } else { 100 }
+}
+
+pub fn software(i: usize) -> Titled {
+    let mut word = io::buffer();
+    let n = os::arg(i, &mut word);
+    if !words::fits(&word[..n], 16) {
+        say::expected(b"SOFTWARE", b"at most 16 characters");
+        return Titled {
+            good: false,
+            name: [0; 16],
+        };
+    }
+    Titled {
+        good: true,
+        name: words::software(&word[..n]),
+    }
+}

@@ -1,0 +1,220 @@
+//! The library and the independent model side by side.
+//!
+//!     compare SEED CASES            generated cases, spoiled tables, forged sessions and long batches from this seed on
+//!     compare planted SEED CASES    each planted fault has to be found within these cases
+//!     compare size                  a file to the byte past the size limit (takes about a minute)
+//!
+//! A difference is printed with its case made small; the exit status is then 1.
+#![forbid(unsafe_code)]
+mod edge;
+mod forged;
+mod long;
+mod spoiled;
+
+use edge::{Edge, Slip};
+use model::case::{compare, compare_seen, shrink, Case, Front, ModelFront};
+use model::count::Counts;
+use model::file::Fault;
+use model::generate;
+use std::io::{IsTerminal, Write};
+use std::process::exit;
+use std::time::Instant;
+
+/// How many smaller cases are tried at a difference.
+const TRIES: usize = 4000;
+/// A long batch comes with one case in so many.
+const LONG: u64 = 250;
+
+fn show_case(front: &mut dyn Front, what: &str, seed: u64, case: &Case) {
+    let small = shrink(case, TRIES, &mut |c| compare(front, c).err().map(|d| d.step));
+    match compare(front, &small) {
+        Err(d) => println!("{what}, seed {seed}, made small; call {}: {}\n{small}", d.step, d.what),
+        Ok(()) => println!("{what}, seed {seed}: it differs only before it is made small\n{case}"),
+    }
+}
+
+fn show_forged(front: &mut dyn Front, seed: u64) {
+    let small = forged::shrink(front, &forged::forged(seed));
+    match forged::drive(front, &small) {
+        Err(b) => println!("forged sessions, seed {seed}, made small; call {}: {}\n{small}", b.step, b.what),
+        Ok(_) => println!("forged sessions, seed {seed}: it differs only before it is made small"),
+    }
+}
+
+/// One line that is written over where it goes to a terminal, and now and then a line elsewhere.
+struct Progress {
+    began: Instant,
+    told: f64,
+}
+
+impl Progress {
+    fn tell(&mut self, done: u64, of: u64, differences: u64) {
+        let (terminal, now) = (std::io::stderr().is_terminal(), self.began.elapsed().as_secs_f64());
+        let pause = if terminal { 0.5 } else { 15.0 };
+        if now - self.told < pause && (done < of || !terminal) {
+            return;
+        }
+        self.told = now;
+        let (start, end) = if terminal { ("\r", if done == of { "\n" } else { "" }) } else { ("", "\n") };
+        eprint!("{start}{done} of {of} cases, {differences} differences, {:.0} a second{end}", done as f64 / now);
+        let _ = std::io::stderr().flush();
+    }
+}
+
+fn run(seed: u64, cases: u64) -> bool {
+    let mut counts = Counts::default();
+    let mut seen = forged::Seen::default();
+    let mut spoiled_calls = [0u64; 2];
+    let mut progress = Progress { began: Instant::now(), told: 0.0 };
+    let mut differences = 0;
+    let front = &mut Edge(Slip::None);
+    for s in seed..seed + cases {
+        let case = generate::case(s);
+        if compare_seen(front, &case, &mut |step, answer| counts.see(step, answer)).is_err() {
+            show_case(front, "case", s, &case);
+            differences += 1;
+        }
+        let case = spoiled::case(s);
+        let count = &mut |_: &_, a: &model::Answer| spoiled_calls[(a.refusal == 2) as usize] += 1;
+        if compare_seen(front, &case, count).is_err() {
+            show_case(front, "spoiled table", s, &case);
+            differences += 1;
+        }
+        if s % LONG == 0 {
+            let case = long::case(s);
+            if compare_seen(front, &case, &mut |step, answer| counts.see(step, answer)).is_err() {
+                show_case(front, "long batches", s, &case);
+                differences += 1;
+            }
+        }
+        match forged::drive(front, &forged::forged(s)) {
+            Ok(more) => seen.add(more),
+            Err(_) => {
+                show_forged(front, s);
+                differences += 1;
+            }
+        }
+        progress.tell(s - seed + 1, cases, differences);
+        // What one fault breaks is mostly the same; a few differences say enough.
+        if differences == 5 {
+            println!("stopped after 5 differences");
+            break;
+        }
+    }
+    let served: Vec<String> = counts.calls.iter().map(|(call, n)| format!("{call} {n}")).collect();
+    println!("calls served: {}; refused: {}", served.join(", "), counts.refusals.values().sum::<u64>());
+    let missing = counts.missing();
+    println!("never came up: {}", if missing.is_empty() { "nothing".to_string() } else { missing.join("; ") });
+    println!("calls on spoiled tables: {} refused with 2, {} not", spoiled_calls[1], spoiled_calls[0]);
+    println!(
+        "reads and ends with forged sessions about: {} served, {} refused, {} accepted; on a forged one: {} served, {} accepted",
+        seen.served, seen.refused, seen.accepted, seen.forged_served, seen.forged_accepted
+    );
+    println!(
+        "{cases} cases from seed {seed}, {:.0} seconds: {differences} differences",
+        progress.began.elapsed().as_secs_f64()
+    );
+    differences == 0
+}
+
+/// The first case of the run in which a front differs, and in what.
+fn found(seed: u64, cases: u64, front: &mut dyn Front, all: bool) -> Option<(u64, &'static str)> {
+    (seed..seed + cases).find_map(|s| {
+        if compare(front, &generate::case(s)).is_err() {
+            Some((s, "case"))
+        } else if !all {
+            None
+        } else if compare(front, &spoiled::case(s)).is_err() {
+            Some((s, "spoiled table"))
+        } else if forged::drive(front, &forged::forged(s)).is_err() {
+            Some((s, "forged sessions"))
+        } else {
+            None
+        }
+    })
+}
+
+fn planted(seed: u64, cases: u64) -> bool {
+    let mut every = true;
+    let mut tell = |name: String, found: Option<(u64, &str)>| match found {
+        Some((s, by)) => println!("{name:<32} found after {} ({by})", s - seed + 1),
+        None => {
+            println!("{name:<32} NOT FOUND within {cases}");
+            every = false;
+        }
+    };
+    for fault in Fault::ALL {
+        tell(format!("{fault:?}"), found(seed, cases, &mut ModelFront::new(fault as u32), false));
+    }
+    for slip in Slip::ALL {
+        tell(format!("{slip:?}"), found(seed, cases, &mut Edge(slip), true));
+    }
+    every
+}
+
+fn size() -> bool {
+    match model::size::compare_size(&mut Edge(Slip::None)) {
+        Ok(codes) => {
+            println!("alike; replies at the limit: {codes:?}");
+            true
+        }
+        Err(d) => {
+            println!("differs at call {}: {}", d.step, d.what);
+            false
+        }
+    }
+}
+
+fn main() {
+    let words: Vec<String> = std::env::args().skip(1).collect();
+    let number = |w: &str| w.parse::<u64>().ok();
+    let words: Vec<&str> = words.iter().map(|w| w.as_str()).collect();
+    let well = match words[..] {
+        ["size"] => size(),
+        ["planted", a, b] if number(a).is_some() && number(b).is_some() => {
+            planted(number(a).unwrap(), number(b).unwrap())
+        }
+        [a, b] if number(a).is_some() && number(b).is_some() => run(number(a).unwrap(), number(b).unwrap()),
+        _ => {
+            eprintln!("usage: compare SEED CASES | compare planted SEED CASES | compare size");
+            exit(2);
+        }
+    };
+    exit(if well { 0 } else { 1 });
+}
+
+#[cfg(test)]
+mod tests {
+    use super::*;
+
+    /// A difference is shown small: the planted slip needs an opening, an ESI that a read's end cuts
+    /// between CR and LF, and the read after it.
+    #[test]
+    fn a_difference_is_made_small() {
+        let front = &mut Edge(Slip::WaitingCrNotKept);
+        let differs = |front: &mut Edge, c: &Case| compare(front, c).err().map(|d| d.step);
+        let case = (1..).map(generate::case).find(|c| differs(front, c).is_some()).expect("found");
+        let small = shrink(&case, TRIES, &mut |c| differs(front, c));
+        assert!(differs(front, &small).is_some() && small.steps.len() <= 4, "{small}");
+    }
+
+    #[test]
+    fn what_does_not_hold_of_a_forged_session_is_made_small() {
+        let front = &mut Edge(Slip::DataTypeOutOfRangeAccepted);
+        let seed = (1..).find(|&s| forged::drive(front, &forged::forged(s)).is_err()).expect("found");
+        let small = forged::shrink(front, &forged::forged(seed));
+        assert!(forged::drive(front, &small).is_err());
+        assert!(small.case.steps.len() <= 4 && small.forgings.len() == 1, "{small}");
+    }
+
+    /// Long batches are accepted now and then, or they would try nothing.
+    #[test]
+    fn long_batches_are_accepted() {
+        let mut counts = Counts::default();
+        for seed in 1..20 {
+            let seen = compare_seen(&mut Edge(Slip::None), &long::case(seed), &mut |s, a| counts.see(s, a));
+            assert!(seen.is_ok());
+        }
+        assert!(counts.codes.get(&(1001, 'P')).is_some_and(|&n| n > 5));
+    }
+}
