@@ -107,10 +107,23 @@ fn say_put(number: u32, bytes: &[u8]) {
     say(b"] ");
 }
 
-fn one(k: Kind, number: u32, bytes: &[u8]) {
+// One field changed, beside characters over that are blank or not.
+fn one(k: Kind, blank_over: bool, number: u32, bytes: &[u8]) {
     say_kind(k);
+    if !blank_over {
+        say(b"surplus ");
+    }
     say_put(number, bytes);
-    tell(k, 0, true, put(good(k), number, bytes));
+    tell(k, 0, blank_over, put(good(k), number, bytes));
+}
+
+// The same with a text that begins with the field's three digits.
+fn numbered(k: Kind, blank_over: bool, words: &[u8]) {
+    if words.len() < 3 {
+        return;
+    }
+    let number = (text::number(&words[0..3]) % 1000) as u32;
+    one(k, blank_over, number, &words[3..]);
 }
 
 fn two(k: Kind, number: u32, bytes: &[u8], other: u32, others: &[u8]) {
@@ -120,21 +133,13 @@ fn two(k: Kind, number: u32, bytes: &[u8], other: u32, others: &[u8]) {
     tell(k, 0, true, put(put(good(k), number, bytes), other, others));
 }
 
-// With characters over that are not blank.
-fn over(k: Kind, number: u32, bytes: &[u8]) {
-    say_kind(k);
-    say(b"surplus ");
-    say_put(number, bytes);
-    tell(k, 0, false, put(good(k), number, bytes));
-}
-
-// Each of some texts that end in a bar, put into one field.
-fn each(k: Kind, number: u32, texts: &[u8]) {
+// Each of some texts that end in a bar.
+fn each(k: Kind, blank_over: bool, texts: &[u8]) {
     let mut start = 0;
     let mut i = 0;
     while i < texts.len() {
         if texts[i] == b'|' {
-            one(k, number, &texts[start..i]);
+            numbered(k, blank_over, &texts[start..i]);
             start = i + 1;
         }
         i += 1;
@@ -156,52 +161,29 @@ fn by_itself(k: Kind, alone: u32, blank_over: bool, bytes: &[u8]) {
 
 // Fields 1 to 9.2.
 fn heads(k: Kind) {
-    each(k, 10, b">>|>>ESi|>>XYZ|");
-    each(k, 20, b"16A|   |160|161|128|");
-    each(k, 30, b"12A|130|110|");
-    each(k, 40, b"k|K|");
-    each(k, 50, b"00 0|0001|");
     each(
         k,
-        60,
-        b"Software 1|SOFTWARE&|!|%()*+,-./:;<=>?|%()*+,-./:;<=>|                |",
+        true,
+        b"010>>|010>>ESi|010>>XYZ|02016A|020   |020160|020161|020128|03012A|030130|030110|040k|040K|05000 0|0500001|060Software 1|060SOFTWARE&|060!|060%()*+,-./:;<=>?|060%()*+,-./:;<=>|060                |070smh|070SMH|070SKH|070SKE|070SME|081a|081                         |082b|091c|091                         |092d|",
     );
-    each(k, 70, b"smh|SMH|SKH|SKE|SME|");
-    each(k, 81, b"a|                         |");
-    each(k, 82, b"b|");
-    each(k, 91, b"c|                         |");
-    each(k, 92, b"d|");
 }
 
 // Fields 10 to 12.3.
 fn stamps(k: Kind) {
-    each(k, 100, b"A|9|");
-    each(k, 110, b" |0|");
-    each(k, 121, b"93041A|930431|931301|010229|000229|790101|930400|");
-    each(k, 122, b"10153A|240000|236000|235960|235959|000000|");
-    each(k, 123, b"00 |999|");
+    each(
+        k,
+        true,
+        b"100A|1009|110 |1100|12193041A|121930431|121931301|121010229|121000229|121790101|121930400|12210153A|122240000|122236000|122235960|122235959|122000000|12300 |123999|",
+    );
 }
 
 // Fields 13 to 18, of which SUO lacks the last three.
 fn tails(k: Kind) {
-    each(k, 130, b"s|S|A|B| |");
-    each(k, 140, b"    a|        A|");
     each(
         k,
-        150,
-        b"0123456789abcdef|0123456789ABCDEG|0000000000000000|                |",
+        true,
+        b"130s|130S|130A|130B|130 |140    a|140        A|1500123456789abcdef|1500123456789ABCDEG|1500000000000000000|150                |160abcdef0123456789|160ABCDEF012345678-|1600000000000000000|160                |1700123456789ABCDEf|1700123456789ABCDEG|170                |170FFFFFFFFFFFFFFFF|1800|1801|1802|1803|180a|180 |",
     );
-    each(
-        k,
-        160,
-        b"abcdef0123456789|ABCDEF012345678-|0000000000000000|                |",
-    );
-    each(
-        k,
-        170,
-        b"0123456789ABCDEf|0123456789ABCDEG|                |FFFFFFFFFFFFFFFF|",
-    );
-    each(k, 180, b"0|1|2|3|a| |");
 }
 
 // A fault of the format on one field against another fault.
@@ -225,12 +207,7 @@ fn values(k: Kind) {
 
 // Characters over, against other faults.
 fn surplus(k: Kind) {
-    over(k, 10, b">>");
-    over(k, 30, b"12A");
-    over(k, 10, b">>ESi");
-    over(k, 20, b"160");
-    over(k, 20, b"16A");
-    over(k, 40, b"K");
+    each(k, false, b"010>>|03012A|010>>ESi|020160|02016A|040K|");
 }
 
 // The faults of one record alone, beside other faults.

@@ -9,13 +9,13 @@ cast-t8 : tie.Need-cast-t8
 cast-t8 c = search needs
 
 is-real-requires : tie.Need-is-real-requires
-is-real-requires c κs = tt
+is-real-requires c κs = search needs
 
 is-real-requires-2 : tie.Need-is-real-requires-2
-is-real-requires-2 c κs = tt
+is-real-requires-2 c κs = search needs
 
 before-requires : tie.Need-before-requires
-before-requires c κs = tt
+before-requires c κs = search needs
 
 returns : tie.Need-returns
 returns c =
@@ -27,7 +27,7 @@ returns c =
     (c .before2 .ensures)
 
 is-too-old-requires : tie.Need-is-too-old-requires
-is-too-old-requires c κs = tt
+is-too-old-requires c κs = search needs
 
 returns-2 : tie.Need-returns-2
 returns-2 c = c .is-too-old .ensures ∙ as-old _ _ _

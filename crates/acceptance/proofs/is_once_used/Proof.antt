@@ -24,7 +24,7 @@ returns : tie.Need-returns Inv-loop μ-loop
 returns c = used-none _ _ _ _ (c .if1 .taken)
 
 earliest-good-requires : tie.Need-earliest-good-requires Inv-loop μ-loop
-earliest-good-requires c κs = tt
+earliest-good-requires c κs = search needs
 
 places-requires : tie.Need-places-requires Inv-loop μ-loop
 places-requires c κs = search needs

@@ -21,7 +21,7 @@ abbrev μ-loop : tie.MeasureT-loop
 μ-loop today holidays e n stamps once kept₀ beside₀ m₀ i₀ kept beside m i = n - i
 
 earliest-good-requires : tie.Need-earliest-good-requires Inv-loop μ-loop
-earliest-good-requires c κs = tt
+earliest-good-requires c κs = search needs
 
 places-requires : tie.Need-places-requires Inv-loop μ-loop
 places-requires c κs = search needs

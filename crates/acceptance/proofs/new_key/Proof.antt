@@ -1,13 +1,14 @@
 -- The key is the maker's, the seed is moved on, and the customer's keys are changed by that key.
 use Rattle.acceptance.specs.Grants.{newKey}
+use borrow.Author.Needs.{needs}
 use Rattle.acceptance.proofs.new_key.Statement.{statement}
 use Rattle.acceptance.proofs.new_key.Tie as tie
 
 take-key-requires : tie.Need-take-key-requires
-take-key-requires c κs = tt
+take-key-requires c κs = search needs
 
 with-working-requires : tie.Need-with-working-requires
-with-working-requires c κs = tt
+with-working-requires c κs = search needs
 
 returns : tie.Need-returns
 unfolding newKey

@@ -2,18 +2,19 @@
 use borrow.Author.Tests.{eq-eqb, ne-eqb}
 use Rattle.acceptance.specs.Grants.{underPrevious}
 use Rattle.acceptance.proofs.Grants.{here, there}
+use borrow.Author.Needs.{needs}
 use Rattle.acceptance.proofs.under_previous.Statement.{statement}
 use Rattle.acceptance.proofs.under_previous.Tie as tie
 
 without-key-requires : tie.Need-without-key-requires
-without-key-requires c κs = tt
+without-key-requires c κs = search needs
 
 returns : tie.Need-returns
 unfolding underPrevious
 returns c = here _ _ _ _ (eq-eqb _ _ (c .before .if1 .taken)) (c .without-key .ensures)
 
 without-key-requires-2 : tie.Need-without-key-requires-2
-without-key-requires-2 c κs = tt
+without-key-requires-2 c κs = search needs
 
 returns-2 : tie.Need-returns-2
 unfolding underPrevious
@@ -21,7 +22,7 @@ returns-2 c =
     there _ _ _ _ (ne-eqb _ _ (c .before .before .if1 .left)) (here _ _ _ _ (eq-eqb _ _ (c .before .if2 .taken)) (c .without-key2 .ensures))
 
 without-key-requires-3 : tie.Need-without-key-requires-3
-without-key-requires-3 c κs = tt
+without-key-requires-3 c κs = search needs
 
 returns-3 : tie.Need-returns-3
 unfolding underPrevious

@@ -6,7 +6,7 @@ use Rattle.acceptance.proofs.with_stamp.Statement.{statement}
 use Rattle.acceptance.proofs.with_stamp.Tie as tie
 
 keep-live-requires : tie.Need-keep-live-requires
-keep-live-requires c κs = tt
+keep-live-requires c κs = search needs
 
 cast-n : tie.Need-cast-n
 cast-n c = search needs

@@ -14,10 +14,10 @@ use Rattle.message.proofs.common_holds.Statement.{statement}
 use Rattle.message.proofs.common_holds.Tie as tie
 
 number-requires : tie.Need-number-requires
-number-requires c κs = tt
+number-requires c κs = search needs
 
 length-of-requires : tie.Need-length-of-requires
-length-of-requires c κs = tt
+length-of-requires c κs = search needs
 
 slice-aggregate-one-of : tie.Need-slice-aggregate-one-of
 slice-aggregate-one-of c = search needs
@@ -26,25 +26,25 @@ slice-aggregate-one-of-2 : tie.Need-slice-aggregate-one-of-2
 slice-aggregate-one-of-2 c = search needs
 
 one-of-requires : tie.Need-one-of-requires
-one-of-requires c κs = tt
+one-of-requires c κs = search needs
 
 all-blank-requires : tie.Need-all-blank-requires
-all-blank-requires c κs = tt
+all-blank-requires c κs = search needs
 
 slice-aggregate-same-bytes : tie.Need-slice-aggregate-same-bytes
 slice-aggregate-same-bytes c = search needs
 
 same-bytes-requires : tie.Need-same-bytes-requires
-same-bytes-requires c κs = tt
+same-bytes-requires c κs = search needs
 
 all-blank-requires-2 : tie.Need-all-blank-requires-2
-all-blank-requires-2 c κs = tt
+all-blank-requires-2 c κs = search needs
 
 method-holds-requires : tie.Need-method-holds-requires
-method-holds-requires c κs = tt
+method-holds-requires c κs = search needs
 
 number-requires-2 : tie.Need-number-requires-2
-number-requires-2 c κs = tt
+number-requires-2 c κs = search needs
 
 cast-t20 : tie.Need-cast-t20
 unfolding widthIn pick
@@ -53,10 +53,10 @@ cast-t20 c =
     { fits = named-fits 121 _ (c .before .before .before .args .text .now) (c .before .match .keys7) (c .before .before .before .pre) _ (c .number2 .ensures) (lit≤ tt) }
 
 is-real-requires : tie.Need-is-real-requires
-is-real-requires c κs = tt
+is-real-requires c κs = search needs
 
 number-requires-3 : tie.Need-number-requires-3
-number-requires-3 c κs = tt
+number-requires-3 c κs = search needs
 
 cast-is-real-time : tie.Need-cast-is-real-time
 unfolding widthIn pick
@@ -65,7 +65,7 @@ cast-is-real-time c =
     { fits = named-fits 122 _ (c .before .before .before .args .text .now) (c .before .match .keys8) (c .before .before .before .pre) _ (c .number3 .ensures) (lit≤ tt) }
 
 is-real-time-requires : tie.Need-is-real-time-requires
-is-real-time-requires c κs = tt
+is-real-time-requires c κs = search needs
 
 returns : tie.Need-returns
 unfolding commonRules obeys both either fails widthIn pick

@@ -15,7 +15,7 @@ span-requires : tie.Need-span-requires
 span-requires c κs = search needs
 
 hex-number-requires : tie.Need-hex-number-requires
-hex-number-requires c κs = tt
+hex-number-requires c κs = search needs
 
 returns : tie.Need-returns
 unfolding digestFieldOf fieldText offsetIn widthIn total pick

@@ -6,6 +6,7 @@ use mathlib.Core.Logic.{⊎-elim, inl, inr}
 use Rattle.ground.specs.Choice.{either}
 use Rattle.ground.specs.Lists.{member}
 use Rattle.message.proofs.Tests.{made, not-made}
+use borrow.Author.Needs.{needs}
 use Rattle.message.proofs.digits_hold.Statement.{statement}
 use Rattle.message.proofs.digits_hold.Tie as tie
 
@@ -13,10 +14,10 @@ abbrev digits : List ℕ
 digits = 2 ∷ 3 ∷ 5 ∷ 10 ∷ 11 ∷ 12 ∷ []
 
 all-digits-requires : tie.Need-all-digits-requires
-all-digits-requires c κs = tt
+all-digits-requires c κs = search needs
 
 all-digits-requires-2 : tie.Need-all-digits-requires-2
-all-digits-requires-2 c κs = tt
+all-digits-requires-2 c κs = search needs
 
 returns : tie.Need-returns
 unfolding member either

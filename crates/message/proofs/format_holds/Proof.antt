@@ -4,14 +4,15 @@ use borrow.Author.Tests.{not-true, not-false}
 use Rattle.ground.proofs.Choices.{fails-left, decides}
 use Rattle.message.specs.Rules.{formatHolds}
 use Rattle.message.proofs.Tests.{tested}
+use borrow.Author.Needs.{needs}
 use Rattle.message.proofs.format_holds.Statement.{statement}
 use Rattle.message.proofs.format_holds.Tie as tie
 
 all-field-characters-requires : tie.Need-all-field-characters-requires
-all-field-characters-requires c κs = tt
+all-field-characters-requires c κs = search needs
 
 only-if-requires : tie.Need-only-if-requires
-only-if-requires c κs = tt
+only-if-requires c κs = search needs
 
 returns : tie.Need-returns
 unfolding formatHolds
@@ -20,7 +21,7 @@ returns c =
     (fails-left _ _ (tested _ _ (c .before .only-if .ensures) (c .before .before .all-field-characters .ensures) ∙ not-true _ (c .if1 .taken)))
 
 digits-hold-requires : tie.Need-digits-hold-requires
-digits-hold-requires c κs = tt
+digits-hold-requires c κs = search needs
 
 returns-2 : tie.Need-returns-2
 unfolding formatHolds
@@ -31,7 +32,7 @@ returns-2 c =
     ∙ fails-left _ _ (sym (c .before .digits-hold .ensures) ∙ not-true _ (c .if2 .taken)))
 
 hex-holds-requires : tie.Need-hex-holds-requires
-hex-holds-requires c κs = tt
+hex-holds-requires c κs = search needs
 
 returns-3 : tie.Need-returns-3
 unfolding formatHolds
@@ -43,7 +44,7 @@ returns-3 c =
     ∙ fails-left _ _ (sym (c .before .hex-holds .ensures) ∙ not-true _ (c .if3 .taken)))
 
 only-if-requires-2 : tie.Need-only-if-requires-2
-only-if-requires-2 c κs = tt
+only-if-requires-2 c κs = search needs
 
 returns-4 : tie.Need-returns-4
 unfolding formatHolds

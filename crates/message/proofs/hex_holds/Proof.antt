@@ -13,19 +13,19 @@ enum-told : tie.Need-enum-told
 enum-told c = search needs
 
 all-hex-digits-requires : tie.Need-all-hex-digits-requires
-all-hex-digits-requires c κs = tt
+all-hex-digits-requires c κs = search needs
 
 enum-told-2 : tie.Need-enum-told-2
 enum-told-2 c = search needs
 
 all-hex-digits-requires-2 : tie.Need-all-hex-digits-requires-2
-all-hex-digits-requires-2 c κs = tt
+all-hex-digits-requires-2 c κs = search needs
 
 enum-told-3 : tie.Need-enum-told-3
 enum-told-3 c = search needs
 
 all-hex-digits-requires-3 : tie.Need-all-hex-digits-requires-3
-all-hex-digits-requires-3 c κs = tt
+all-hex-digits-requires-3 c κs = search needs
 
 returns : tie.Need-returns
 unfolding hexFields member either

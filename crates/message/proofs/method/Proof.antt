@@ -22,7 +22,7 @@ slice-aggregate-same-bytes : tie.Need-slice-aggregate-same-bytes
 slice-aggregate-same-bytes c = search needs
 
 same-bytes-requires : tie.Need-same-bytes-requires
-same-bytes-requires c κs = tt
+same-bytes-requires c κs = search needs
 
 returns : tie.Need-returns
 unfolding methodOf letters fieldText offsetIn widthIn total pick

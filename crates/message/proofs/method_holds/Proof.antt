@@ -15,7 +15,7 @@ slice-aggregate-same-bytes : tie.Need-slice-aggregate-same-bytes
 slice-aggregate-same-bytes c = search needs
 
 same-bytes-requires : tie.Need-same-bytes-requires
-same-bytes-requires c κs = tt
+same-bytes-requires c κs = search needs
 
 enum-told-2 : tie.Need-enum-told-2
 enum-told-2 c = search needs
@@ -27,7 +27,7 @@ slice-aggregate-one-of-2 : tie.Need-slice-aggregate-one-of-2
 slice-aggregate-one-of-2 c = search needs
 
 one-of-requires : tie.Need-one-of-requires
-one-of-requires c κs = tt
+one-of-requires c κs = search needs
 
 enum-told-3 : tie.Need-enum-told-3
 enum-told-3 c = search needs
@@ -36,7 +36,7 @@ slice-aggregate-same-bytes-2 : tie.Need-slice-aggregate-same-bytes-2
 slice-aggregate-same-bytes-2 c = search needs
 
 same-bytes-requires-2 : tie.Need-same-bytes-requires-2
-same-bytes-requires-2 c κs = tt
+same-bytes-requires-2 c κs = search needs
 
 returns : tie.Need-returns
 unfolding methods oneOf letters

@@ -3,18 +3,19 @@ use mathlib.Core.Path.{sym, _∙_}
 use Rattle.ground.proofs.Choices.{either-left, either-decides}
 use Rattle.message.specs.Rules.{oneOf}
 use Rattle.message.proofs.Tests.{either-false}
+use borrow.Author.Needs.{needs}
 use Rattle.message.proofs.one_of.Statement.{statement}
 use Rattle.message.proofs.one_of.Tie as tie
 
 same-bytes-requires : tie.Need-same-bytes-requires
-same-bytes-requires c κs = tt
+same-bytes-requires c κs = search needs
 
 returns : tie.Need-returns
 unfolding oneOf
 returns c = sym (either-left _ _ (sym (c .before .same-bytes .ensures) ∙ c .if1 .taken))
 
 same-bytes-requires-2 : tie.Need-same-bytes-requires-2
-same-bytes-requires-2 c κs = tt
+same-bytes-requires-2 c κs = search needs
 
 returns-2 : tie.Need-returns-2
 unfolding oneOf

@@ -13,10 +13,10 @@ enum-told : tie.Need-enum-told
 enum-told c = search needs
 
 all-blank-requires : tie.Need-all-blank-requires
-all-blank-requires c κs = tt
+all-blank-requires c κs = search needs
 
 request-holds-requires : tie.Need-request-holds-requires
-request-holds-requires c κs = tt
+request-holds-requires c κs = search needs
 
 enum-told-2 : tie.Need-enum-told-2
 enum-told-2 c = search needs
@@ -28,7 +28,7 @@ slice-aggregate-one-of-2 : tie.Need-slice-aggregate-one-of-2
 slice-aggregate-one-of-2 c = search needs
 
 one-of-requires : tie.Need-one-of-requires
-one-of-requires c κs = tt
+one-of-requires c κs = search needs
 
 enum-told-3 : tie.Need-enum-told-3
 enum-told-3 c = search needs
@@ -40,10 +40,10 @@ slice-aggregate-one-of-4 : tie.Need-slice-aggregate-one-of-4
 slice-aggregate-one-of-4 c = search needs
 
 one-of-requires-2 : tie.Need-one-of-requires-2
-one-of-requires-2 c κs = tt
+one-of-requires-2 c κs = search needs
 
 request-holds-requires-2 : tie.Need-request-holds-requires-2
-request-holds-requires-2 c κs = tt
+request-holds-requires-2 c κs = search needs
 
 returns : tie.Need-returns
 unfolding ownRules obeys both either fails

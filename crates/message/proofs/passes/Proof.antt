@@ -12,7 +12,7 @@ unfolding pick
 returns c = rw (c .before .if1 .taken) (c .value-holds .ensures)
 
 format-holds-requires : tie.Need-format-holds-requires
-format-holds-requires c κs = tt
+format-holds-requires c κs = search needs
 
 returns-2 : tie.Need-returns-2
 unfolding pick

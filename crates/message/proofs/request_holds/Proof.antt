@@ -11,7 +11,7 @@ slice-aggregate-same-bytes : tie.Need-slice-aggregate-same-bytes
 slice-aggregate-same-bytes c = search needs
 
 same-bytes-requires : tie.Need-same-bytes-requires
-same-bytes-requires c κs = tt
+same-bytes-requires c κs = search needs
 
 returns : tie.Need-returns
 unfolding oneOf letters
@@ -24,7 +24,7 @@ slice-aggregate-one-of-2 : tie.Need-slice-aggregate-one-of-2
 slice-aggregate-one-of-2 c = search needs
 
 one-of-requires : tie.Need-one-of-requires
-one-of-requires c κs = tt
+one-of-requires c κs = search needs
 
 returns-2 : tie.Need-returns-2
 unfolding oneOf letters

@@ -15,7 +15,7 @@ unfolding valueHolds
 returns c = sym (fails-left _ _ (sym (c .before .common-holds .ensures) ∙ not-true _ (c .if1 .taken)))
 
 own-holds-requires : tie.Need-own-holds-requires
-own-holds-requires c κs = tt
+own-holds-requires c κs = search needs
 
 returns-2 : tie.Need-returns-2
 unfolding valueHolds

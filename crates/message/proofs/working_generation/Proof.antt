@@ -15,7 +15,7 @@ span-requires : tie.Need-span-requires
 span-requires c κs = search needs
 
 number-requires : tie.Need-number-requires
-number-requires c κs = tt
+number-requires c κs = search needs
 
 cast-result : tie.Need-cast-result
 unfolding total

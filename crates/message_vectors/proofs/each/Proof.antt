@@ -7,10 +7,10 @@ use Rattle.message_vectors.proofs.each.Statement.{statement}
 use Rattle.message_vectors.proofs.each.Tie as tie
 
 abbrev Inv-loop : tie.InvT-loop
-Inv-loop k number texts start₀ i₀ start i = (start ≤ i) × (i ≤ length texts)
+Inv-loop k over texts start₀ i₀ start i = (start ≤ i) × (i ≤ length texts)
 
 abbrev μ-loop : tie.MeasureT-loop
-μ-loop k number texts start₀ i₀ start i = length texts - i
+μ-loop k over texts start₀ i₀ start i = length texts - i
 
 loop-holds : tie.Need-loop-holds Inv-loop μ-loop
 loop-holds c = omega arith
@@ -18,17 +18,17 @@ loop-holds c = omega arith
 shared-slice-read-if1 : tie.Need-shared-slice-read-if1 Inv-loop μ-loop
 shared-slice-read-if1 c = omega arith
 
-sub-one : tie.Need-sub-one Inv-loop μ-loop
-sub-one c = omega arith
+sub-numbered : tie.Need-sub-numbered Inv-loop μ-loop
+sub-numbered c = omega arith
 
-part-one-start : tie.Need-part-one-start Inv-loop μ-loop
-part-one-start c = omega arith
+part-numbered-start : tie.Need-part-numbered-start Inv-loop μ-loop
+part-numbered-start c = omega arith
 
-part-one-end : tie.Need-part-one-end Inv-loop μ-loop
-part-one-end c = omega arith
+part-numbered-end : tie.Need-part-numbered-end Inv-loop μ-loop
+part-numbered-end c = omega arith
 
-one-requires : tie.Need-one-requires Inv-loop μ-loop
-one-requires c κs = tt
+numbered-requires : tie.Need-numbered-requires Inv-loop μ-loop
+numbered-requires c κs = tt
 
 add-start : tie.Need-add-start Inv-loop μ-loop
 add-start c = omega arith
@@ -53,10 +53,10 @@ each-spec =
     μ-loop
     loop-holds
     shared-slice-read-if1
-    sub-one
-    part-one-start
-    part-one-end
-    one-requires
+    sub-numbered
+    part-numbered-start
+    part-numbered-end
+    numbered-requires
     add-start
     add-i
     loop-less

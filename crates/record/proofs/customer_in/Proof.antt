@@ -41,31 +41,31 @@ add-read2 : tie.Need-add-read2
 add-read2 c = search needs
 
 read2-requires : tie.Need-read2-requires
-read2-requires c κs = tt
+read2-requires c κs = search needs
 
 add-read1 : tie.Need-add-read1
 add-read1 c = search needs
 
 read1-requires : tie.Need-read1-requires
-read1-requires c κs = tt
+read1-requires c κs = search needs
 
 add-read1-2 : tie.Need-add-read1-2
 add-read1-2 c = search needs
 
 read1-requires-2 : tie.Need-read1-requires-2
-read1-requires-2 c κs = tt
+read1-requires-2 c κs = search needs
 
 add-read1-3 : tie.Need-add-read1-3
 add-read1-3 c = search needs
 
 read1-requires-3 : tie.Need-read1-requires-3
-read1-requires-3 c κs = tt
+read1-requires-3 c κs = search needs
 
 add-read1-4 : tie.Need-add-read1-4
 add-read1-4 c = search needs
 
 read1-requires-4 : tie.Need-read1-requires-4
-read1-requires-4 c κs = tt
+read1-requires-4 c κs = search needs
 
 returns : tie.Need-returns
 unfolding customerOf

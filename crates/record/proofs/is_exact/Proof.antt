@@ -17,7 +17,7 @@ add-read1 : tie.Need-add-read1
 add-read1 c = search needs
 
 read1-requires : tie.Need-read1-requires
-read1-requires c κs = tt
+read1-requires c κs = search needs
 
 returns : tie.Need-returns
 returns c =
@@ -33,7 +33,7 @@ add-read1-2 : tie.Need-add-read1-2
 add-read1-2 c = search needs
 
 read1-requires-2 : tie.Need-read1-requires-2
-read1-requires-2 c κs = tt
+read1-requires-2 c κs = search needs
 
 returns-2 : tie.Need-returns-2
 returns-2 c =

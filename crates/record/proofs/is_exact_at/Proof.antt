@@ -2,11 +2,12 @@
 use mathlib.Core.Path.{sym, _∙_}
 use borrow.Author.Tests.{not-true, not-false}
 use Rattle.record.proofs.Exact.{exact-fits, exact-past}
+use borrow.Author.Needs.{needs}
 use Rattle.record.proofs.is_exact_at.Statement.{statement}
 use Rattle.record.proofs.is_exact_at.Tie as tie
 
 fits-requires : tie.Need-fits-requires
-fits-requires c κs = tt
+fits-requires c κs = search needs
 
 returns : tie.Need-returns
 returns c = sym (exact-past _ _ (c .before .fits2 .ensures .1 (not-true _ (c .if1 .taken))))

@@ -6,7 +6,7 @@ use Rattle.record.proofs.is_exact_previous.Statement.{statement}
 use Rattle.record.proofs.is_exact_previous.Tie as tie
 
 read1-requires : tie.Need-read1-requires
-read1-requires c κs = tt
+read1-requires c κs = search needs
 
 returns : tie.Need-returns
 returns c =
@@ -14,7 +14,7 @@ returns c =
     told-held (a .args .t .now) (a .args .at) (a .pre) (λ k. c .before .before .shared-slice-known .given k .fits) (sym (c .before .read1 .ensures) ∙ c .if1 .taken)
 
 read8-requires : tie.Need-read8-requires
-read8-requires c κs = tt
+read8-requires c κs = search needs
 
 returns-2 : tie.Need-returns-2
 returns-2 c =
@@ -25,7 +25,7 @@ add-read8 : tie.Need-add-read8
 add-read8 c = search needs
 
 read8-requires-2 : tie.Need-read8-requires-2
-read8-requires-2 c κs = tt
+read8-requires-2 c κs = search needs
 
 returns-3 : tie.Need-returns-3
 returns-3 c =
@@ -36,7 +36,7 @@ add-read2 : tie.Need-add-read2
 add-read2 c = search needs
 
 read2-requires : tie.Need-read2-requires
-read2-requires c κs = tt
+read2-requires c κs = search needs
 
 returns-4 : tie.Need-returns-4
 returns-4 c =

@@ -8,7 +8,7 @@ use Rattle.record.proofs.load_at.Statement.{statement}
 use Rattle.record.proofs.load_at.Tie as tie
 
 fits-requires : tie.Need-fits-requires
-fits-requires c κs = tt
+fits-requires c κs = search needs
 
 slice-aggregate-customer-in : tie.Need-slice-aggregate-customer-in
 slice-aggregate-customer-in c = search needs

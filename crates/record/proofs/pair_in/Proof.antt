@@ -9,13 +9,13 @@ use Rattle.record.proofs.pair_in.Statement.{statement}
 use Rattle.record.proofs.pair_in.Tie as tie
 
 read1-requires : tie.Need-read1-requires
-read1-requires c κs = tt
+read1-requires c κs = search needs
 
 add-read8 : tie.Need-add-read8
 add-read8 c = search needs
 
 read8-requires : tie.Need-read8-requires
-read8-requires c κs = tt
+read8-requires c κs = search needs
 
 add-previous-in : tie.Need-add-previous-in
 add-previous-in c = search needs

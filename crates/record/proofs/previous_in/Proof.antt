@@ -10,7 +10,7 @@ use Rattle.record.proofs.previous_in.Statement.{statement}
 use Rattle.record.proofs.previous_in.Tie as tie
 
 read1-requires : tie.Need-read1-requires
-read1-requires c κs = tt
+read1-requires c κs = search needs
 
 returns : tie.Need-returns
 returns c =
@@ -21,25 +21,25 @@ add-read1 : tie.Need-add-read1
 add-read1 c = search needs
 
 read1-requires-2 : tie.Need-read1-requires-2
-read1-requires-2 c κs = tt
+read1-requires-2 c κs = search needs
 
 add-read8 : tie.Need-add-read8
 add-read8 c = search needs
 
 read8-requires : tie.Need-read8-requires
-read8-requires c κs = tt
+read8-requires c κs = search needs
 
 add-read4 : tie.Need-add-read4
 add-read4 c = search needs
 
 read4-requires : tie.Need-read4-requires
-read4-requires c κs = tt
+read4-requires c κs = search needs
 
 add-read4-2 : tie.Need-add-read4-2
 add-read4-2 c = search needs
 
 read4-requires-2 : tie.Need-read4-requires-2
-read4-requires-2 c κs = tt
+read4-requires-2 c κs = search needs
 
 returns-2 : tie.Need-returns-2
 returns-2 c =

@@ -8,7 +8,7 @@ use Rattle.record.proofs.settings_at.Statement.{statement}
 use Rattle.record.proofs.settings_at.Tie as tie
 
 fits-requires : tie.Need-fits-requires
-fits-requires c κs = tt
+fits-requires c κs = search needs
 
 slice-aggregate-settings-in : tie.Need-slice-aggregate-settings-in
 slice-aggregate-settings-in c = search needs

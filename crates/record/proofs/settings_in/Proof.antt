@@ -21,19 +21,19 @@ add-read8 : tie.Need-add-read8
 add-read8 c = search needs
 
 read8-requires : tie.Need-read8-requires
-read8-requires c κs = tt
+read8-requires c κs = search needs
 
 add-read8-2 : tie.Need-add-read8-2
 add-read8-2 c = search needs
 
 read8-requires-2 : tie.Need-read8-requires-2
-read8-requires-2 c κs = tt
+read8-requires-2 c κs = search needs
 
 add-read1 : tie.Need-add-read1
 add-read1 c = search needs
 
 read1-requires : tie.Need-read1-requires
-read1-requires c κs = tt
+read1-requires c κs = search needs
 
 returns : tie.Need-returns
 unfolding settingsOf

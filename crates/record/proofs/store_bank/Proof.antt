@@ -13,31 +13,31 @@ use Rattle.record.proofs.store_bank.Statement.{statement}
 use Rattle.record.proofs.store_bank.Tie as tie
 
 write-bytes-requires : tie.Need-write-bytes-requires
-write-bytes-requires c κs = tt
+write-bytes-requires c κs = search needs
 
 add-write-bytes : tie.Need-add-write-bytes
 add-write-bytes c = search needs
 
 write-bytes-requires-2 : tie.Need-write-bytes-requires-2
-write-bytes-requires-2 c κs = tt
+write-bytes-requires-2 c κs = search needs
 
 add-write1 : tie.Need-add-write1
 add-write1 c = search needs
 
 write1-requires : tie.Need-write1-requires
-write1-requires c κs = tt
+write1-requires c κs = search needs
 
 add-write8 : tie.Need-add-write8
 add-write8 c = search needs
 
 write8-requires : tie.Need-write8-requires
-write8-requires c κs = tt
+write8-requires c κs = search needs
 
 add-write8-2 : tie.Need-add-write8-2
 add-write8-2 c = search needs
 
 write8-requires-2 : tie.Need-write8-requires-2
-write8-requires-2 c κs = tt
+write8-requires-2 c κs = search needs
 
 same-length : tie.Need-same-length
 same-length c = search needs

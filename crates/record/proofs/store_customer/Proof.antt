@@ -15,7 +15,7 @@ use Rattle.record.proofs.store_customer.Statement.{statement}
 use Rattle.record.proofs.store_customer.Tie as tie
 
 write-bytes-requires : tie.Need-write-bytes-requires
-write-bytes-requires c κs = tt
+write-bytes-requires c κs = search needs
 
 add-store-terms : tie.Need-add-store-terms
 add-store-terms c = search needs

@@ -7,13 +7,13 @@ use Rattle.record.proofs.store_days.Statement.{statement}
 use Rattle.record.proofs.store_days.Tie as tie
 
 write4-requires : tie.Need-write4-requires
-write4-requires c κs = tt
+write4-requires c κs = search needs
 
 add-write4 : tie.Need-add-write4
 add-write4 c = search needs
 
 write4-requires-2 : tie.Need-write4-requires-2
-write4-requires-2 c κs = tt
+write4-requires-2 c κs = search needs
 
 same-length : tie.Need-same-length
 same-length c = search needs

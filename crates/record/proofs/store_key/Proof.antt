@@ -7,13 +7,13 @@ use Rattle.record.proofs.store_key.Statement.{statement}
 use Rattle.record.proofs.store_key.Tie as tie
 
 write1-requires : tie.Need-write1-requires
-write1-requires c κs = tt
+write1-requires c κs = search needs
 
 add-write8 : tie.Need-add-write8
 add-write8 c = search needs
 
 write8-requires : tie.Need-write8-requires
-write8-requires c κs = tt
+write8-requires c κs = search needs
 
 same-length : tie.Need-same-length
 same-length c = search needs

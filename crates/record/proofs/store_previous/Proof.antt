@@ -24,7 +24,7 @@ slice-aggregate-write-bytes : tie.Need-slice-aggregate-write-bytes
 slice-aggregate-write-bytes c = search needs
 
 write-bytes-requires : tie.Need-write-bytes-requires
-write-bytes-requires c κs = tt
+write-bytes-requires c κs = search needs
 
 same-length : tie.Need-same-length
 same-length c = search needs
@@ -37,7 +37,7 @@ returns c =
     c .before .before .write-bytes .ensures ∙ put-fits (a .args .at) (replicate 18 0) (a .args .t .now) (a .pre) ∙ ap (λ p. splice (a .args .at) (previousBytes p) (a .args .t .now)) (sym e)
 
 write1-requires : tie.Need-write1-requires
-write1-requires c κs = tt
+write1-requires c κs = search needs
 
 add-store-key : tie.Need-add-store-key
 add-store-key c = search needs

@@ -11,7 +11,7 @@ use Rattle.record.proofs.store_settings.Statement.{statement}
 use Rattle.record.proofs.store_settings.Tie as tie
 
 fits-requires : tie.Need-fits-requires
-fits-requires c κs = tt
+fits-requires c κs = search needs
 
 returns : tie.Need-returns
 returns c =

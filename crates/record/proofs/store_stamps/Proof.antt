@@ -12,7 +12,7 @@ use Rattle.record.proofs.store_stamps.Statement.{statement}
 use Rattle.record.proofs.store_stamps.Tie as tie
 
 write1-requires : tie.Need-write1-requires
-write1-requires c κs = tt
+write1-requires c κs = search needs
 
 add-store-numbers : tie.Need-add-store-numbers
 add-store-numbers c = search needs

@@ -12,31 +12,31 @@ use Rattle.record.proofs.store_terms.Statement.{statement}
 use Rattle.record.proofs.store_terms.Tie as tie
 
 write2-requires : tie.Need-write2-requires
-write2-requires c κs = tt
+write2-requires c κs = search needs
 
 add-write1 : tie.Need-add-write1
 add-write1 c = search needs
 
 flag-requires : tie.Need-flag-requires
-flag-requires c κs = tt
+flag-requires c κs = search needs
 
 write1-requires : tie.Need-write1-requires
-write1-requires c κs = tt
+write1-requires c κs = search needs
 
 add-write1-2 : tie.Need-add-write1-2
 add-write1-2 c = search needs
 
 flag-requires-2 : tie.Need-flag-requires-2
-flag-requires-2 c κs = tt
+flag-requires-2 c κs = search needs
 
 write1-requires-2 : tie.Need-write1-requires-2
-write1-requires-2 c κs = tt
+write1-requires-2 c κs = search needs
 
 add-write1-3 : tie.Need-add-write1-3
 add-write1-3 c = search needs
 
 write1-requires-3 : tie.Need-write1-requires-3
-write1-requires-3 c κs = tt
+write1-requires-3 c κs = search needs
 
 same-length : tie.Need-same-length
 same-length c = search needs

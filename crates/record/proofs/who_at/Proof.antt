@@ -3,11 +3,12 @@ use mathlib.Core.Path.{_∙_}
 use native.Mathlib.Omega.{arith}
 use borrow.Author.Tests.{not-true, not-false}
 use Rattle.record.proofs.Places.{who-fits, who-past}
+use borrow.Author.Needs.{needs}
 use Rattle.record.proofs.who_at.Statement.{statement}
 use Rattle.record.proofs.who_at.Tie as tie
 
 fits-requires : tie.Need-fits-requires
-fits-requires c κs = tt
+fits-requires c κs = search needs
 
 returns : tie.Need-returns
 returns c = who-past _ _ (c .before .fits2 .ensures .1 (not-true _ (c .if1 .taken)))

@@ -8,7 +8,7 @@ use Rattle.register.proofs.add.Statement.{statement}
 use Rattle.register.proofs.add.Tie as tie
 
 adding-refusal-requires : tie.Need-adding-refusal-requires
-adding-refusal-requires c κs = tt
+adding-refusal-requires c κs = search needs
 
 same-length : tie.Need-same-length
 same-length c = search needs
@@ -18,13 +18,13 @@ unfolding addingLeaves
 returns c = (c .before .adding-refusal .ensures, refused-as _ _ _ _ (c .before .adding-refusal .ensures) (c .if1 .taken))
 
 new-customer-requires : tie.Need-new-customer-requires
-new-customer-requires c κs = tt
+new-customer-requires c κs = search needs
 
 add-requires : tie.Need-add-requires
-add-requires c κs = tt
+add-requires c κs = search needs
 
 store-day-requires : tie.Need-store-day-requires
-store-day-requires c κs = tt
+store-day-requires c κs = search needs
 
 same-length-2 : tie.Need-same-length-2
 same-length-2 c = search needs

@@ -65,42 +65,42 @@ unfolding addingRefusals noTable
 past7 c = past6 (c .before .before .before .before .before .before .before .before .before) ∙ lowest-next _ _ (either-none _ _ (unsaid (c .before .before .before .before .before .before .before .is-sound-who .ensures) (c .before .before .before .before .before .before .if7 .left)) (either-none _ _ (le-ltb 9 _ (c .before .before .before .before .if8 .left)) (either-none _ _ (lt-leb 65536 _ (c .before .before .if9 .left)) (said (c .before .is-bad-length .ensures) (c .if10 .left)))))
 
 is-table-requires : tie.Need-is-table-requires
-is-table-requires c κs = tt
+is-table-requires c κs = search needs
 
 returns : tie.Need-returns
 unfolding addingAnswer addingRefusals noTable
 returns c = sym (lowest-first _ _ (unsaid (c .before .is-table .ensures) (c .if1 .taken)))
 
 is-bad-day-requires : tie.Need-is-bad-day-requires
-is-bad-day-requires c κs = tt
+is-bad-day-requires c κs = search needs
 
 returns-2 : tie.Need-returns-2
 unfolding addingAnswer addingRefusals noTable
 returns-2 c = sym (past1 (c .before .before .before) ∙ lowest-first _ _ (said (c .before .is-bad-day .ensures) (c .if2 .taken)))
 
 is-full-requires : tie.Need-is-full-requires
-is-full-requires c κs = tt
+is-full-requires c κs = search needs
 
 returns-3 : tie.Need-returns-3
 unfolding addingAnswer addingRefusals noTable
 returns-3 c = sym (past2 (c .before .before) ∙ lowest-first _ _ (said (c .before .is-full .ensures) (c .if3 .taken)))
 
 is-there-requires : tie.Need-is-there-requires
-is-there-requires c κs = tt
+is-there-requires c κs = search needs
 
 returns-4 : tie.Need-returns-4
 unfolding addingAnswer addingRefusals noTable
 returns-4 c = sym (past3 (c .before .before .before) ∙ lowest-first _ _ (said (c .before .is-there .ensures) (c .if4 .taken)))
 
 is-even-part-requires : tie.Need-is-even-part-requires
-is-even-part-requires c κs = tt
+is-even-part-requires c κs = search needs
 
 returns-5 : tie.Need-returns-5
 unfolding addingAnswer addingRefusals noTable
 returns-5 c = sym (past4 (c .before .before) ∙ lowest-first _ _ (said (c .before .is-even-part .ensures) (c .if5 .taken)))
 
 is-other-check-requires : tie.Need-is-other-check-requires
-is-other-check-requires c κs = tt
+is-other-check-requires c κs = search needs
 
 returns-6 : tie.Need-returns-6
 unfolding addingAnswer addingRefusals noTable
@@ -110,7 +110,7 @@ slice-aggregate-is-sound-who : tie.Need-slice-aggregate-is-sound-who
 slice-aggregate-is-sound-who c = search needs
 
 is-sound-who-requires : tie.Need-is-sound-who-requires
-is-sound-who-requires c κs = tt
+is-sound-who-requires c κs = search needs
 
 returns-7 : tie.Need-returns-7
 unfolding addingAnswer addingRefusals noTable
@@ -125,7 +125,7 @@ unfolding addingAnswer addingRefusals noTable
 returns-9 c = sym (past6 (c .before .before .before .before .before .before .before) ∙ lowest-first _ _ (either-right _ _ (either-right _ _ (either-left _ _ (le-leb 65536 _ (c .if9 .taken))))))
 
 is-bad-length-requires : tie.Need-is-bad-length-requires
-is-bad-length-requires c κs = tt
+is-bad-length-requires c κs = search needs
 
 returns-10 : tie.Need-returns-10
 unfolding addingAnswer addingRefusals noTable

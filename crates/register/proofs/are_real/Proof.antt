@@ -27,7 +27,7 @@ shared-slice-read-t7 : tie.Need-shared-slice-read-t7 Inv-loop μ-loop
 shared-slice-read-t7 c = search needs
 
 is-real-requires : tie.Need-is-real-requires Inv-loop μ-loop
-is-real-requires c κs = tt
+is-real-requires c κs = search needs
 
 returns : tie.Need-returns Inv-loop μ-loop
 returns c = all-stop (c .before .before .before .before .before .before .args .dates .now) (c .before .before .before .before .loop .i) (c .before .before .before .loop-test .taken) (c .before .before .before .before .loop .inv .1) (refused (c .before .is-real .ensures) (c .if1 .taken))

@@ -38,7 +38,7 @@ shared-slice-read-t9-2 : tie.Need-shared-slice-read-t9-2 Inv-loop μ-loop
 shared-slice-read-t9-2 c = search needs
 
 before-requires : tie.Need-before-requires Inv-loop μ-loop
-before-requires c κs = tt
+before-requires c κs = search needs
 
 returns : tie.Need-returns Inv-loop μ-loop
 returns c = rising-stop (c .before .before .before .before .before .before .before .args .dates .now) (c .before .before .before .before .before .loop .i) (c .before .before .before .before .loop-test .taken) (c .before .before .before .before .before .loop .inv .1) (refused (c .before .before2 .ensures) (c .if1 .taken))

@@ -8,7 +8,7 @@ use Rattle.register.proofs.enter.Statement.{statement}
 use Rattle.register.proofs.enter.Tie as tie
 
 entering-refusal-requires : tie.Need-entering-refusal-requires
-entering-refusal-requires c κs = tt
+entering-refusal-requires c κs = search needs
 
 same-length : tie.Need-same-length
 same-length c = search needs
@@ -33,19 +33,19 @@ returns-2 : tie.Need-returns-2
 returns-2 c = absurd (entering-there _ (c .before .before .before .before .before .before .before .before .before .before .args .e) (sym (c .before .before .before .before .before .before .before .entering-refusal .ensures) ∙ c .before .before .before .before .before .before .if1 .left) (sym (c .before .before .find .ensures) ∙ c .enum-told .given .1))
 
 load-requires : tie.Need-load-requires
-load-requires c κs = tt
+load-requires c κs = search needs
 
 combine-requires : tie.Need-combine-requires
-combine-requires c κs = tt
+combine-requires c κs = search needs
 
 with-transport-requires : tie.Need-with-transport-requires
-with-transport-requires c κs = tt
+with-transport-requires c κs = search needs
 
 store-requires : tie.Need-store-requires
-store-requires c κs = tt
+store-requires c κs = search needs
 
 store-day-requires : tie.Need-store-day-requires
-store-day-requires c κs = tt
+store-day-requires c κs = search needs
 
 same-length-3 : tie.Need-same-length-3
 same-length-3 c = search needs

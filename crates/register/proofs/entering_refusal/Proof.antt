@@ -66,14 +66,14 @@ unfolding enteringRefusals noTable
 past7 c = past6 (c .before .before) ∙ lowest-next _ _ (said (c .before .is-changing .ensures ∙ ap (λ (d : Customer). changing (d .transport .previous) (c .before .before .before .before .before .before .before .before .before .before .before .before .before .before .before .before .before .before .before .before .before .args .e .today .yymmdd)) (c .before .before .before .before .before .load .ensures ∙ sym (named-at _ _ _ (sym (c .before .before .before .before .before .before .before .before .before .before .before .before .before .find .ensures) ∙ c .before .before .before .before .before .before .before .before .before .before .before .i .given .1)))) (c .if6 .left))
 
 is-table-requires : tie.Need-is-table-requires
-is-table-requires c κs = tt
+is-table-requires c κs = search needs
 
 returns : tie.Need-returns
 unfolding enteringAnswer enteringRefusals noTable
 returns c = sym (lowest-first _ _ (unsaid (c .before .is-table .ensures) (c .if1 .taken)))
 
 is-bad-day-requires : tie.Need-is-bad-day-requires
-is-bad-day-requires c κs = tt
+is-bad-day-requires c κs = search needs
 
 returns-2 : tie.Need-returns-2
 unfolding enteringAnswer enteringRefusals noTable
@@ -93,31 +93,31 @@ unfolding enteringAnswer enteringRefusals noTable
 returns-3 c = sym (past2 (c .before .before .before .before) ∙ lowest-first _ _ (not-there _ _ (sym (c .before .before .find .ensures) ∙ c .enum-told .given .1)))
 
 is-even-part-requires : tie.Need-is-even-part-requires
-is-even-part-requires c κs = tt
+is-even-part-requires c κs = search needs
 
 returns-4 : tie.Need-returns-4
 unfolding enteringAnswer enteringRefusals noTable
 returns-4 c = sym (past3 (c .before .before) ∙ lowest-first _ _ (said (c .before .is-even-part .ensures) (c .if3 .taken)))
 
 is-other-check-requires : tie.Need-is-other-check-requires
-is-other-check-requires c κs = tt
+is-other-check-requires c κs = search needs
 
 returns-5 : tie.Need-returns-5
 unfolding enteringAnswer enteringRefusals noTable
 returns-5 c = sym (past4 (c .before .before) ∙ lowest-first _ _ (said (c .before .is-other-check .ensures) (c .if4 .taken)))
 
 load-requires : tie.Need-load-requires
-load-requires c κs = tt
+load-requires c κs = search needs
 
 is-not-next-requires : tie.Need-is-not-next-requires
-is-not-next-requires c κs = tt
+is-not-next-requires c κs = search needs
 
 returns-6 : tie.Need-returns-6
 unfolding enteringAnswer enteringRefusals noTable
 returns-6 c = sym (past5 (c .before .before .before .before) ∙ lowest-first _ _ (said (c .before .is-not-next .ensures ∙ ap (λ (d : Customer). notNext (d .transport .generation) (c .before .before .before .before .before .before .before .before .before .before .before .before .before .before .before .before .before .before .before .args .e .generation)) (c .before .before .before .load .ensures ∙ sym (named-at _ _ _ (sym (c .before .before .before .before .before .before .before .before .before .before .before .find .ensures) ∙ c .before .before .before .before .before .before .before .before .before .i .given .1)))) (c .if5 .taken)))
 
 is-changing-requires : tie.Need-is-changing-requires
-is-changing-requires c κs = tt
+is-changing-requires c κs = search needs
 
 returns-7 : tie.Need-returns-7
 unfolding enteringAnswer enteringRefusals noTable

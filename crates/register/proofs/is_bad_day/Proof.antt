@@ -3,21 +3,22 @@ use mathlib.Core.Path.{ap, _∙_}
 use Rattle.calendar.specs.Dates.{earlier}
 use Rattle.register.specs.Refusals.{badDay}
 use Rattle.register.proofs.Refused.{holds, rests, unsaid}
+use borrow.Author.Needs.{needs}
 use Rattle.register.proofs.is_bad_day.Statement.{statement}
 use Rattle.register.proofs.is_bad_day.Tie as tie
 
 is-real-requires : tie.Need-is-real-requires
-is-real-requires c κs = tt
+is-real-requires c κs = search needs
 
 returns : tie.Need-returns
 unfolding badDay
 returns c = holds _ _ (unsaid (c .before .is-real .ensures) (c .if1 .taken))
 
 day-requires : tie.Need-day-requires
-day-requires c κs = tt
+day-requires c κs = search needs
 
 before-requires : tie.Need-before-requires
-before-requires c κs = tt
+before-requires c κs = search needs
 
 returns-2 : tie.Need-returns-2
 unfolding badDay

@@ -2,18 +2,19 @@
 use Rattle.customer.proofs.Chain.{turned}
 use Rattle.register.specs.Refusals.{evenPart}
 use Rattle.register.proofs.Refused.{holds, rests, unsaid}
+use borrow.Author.Needs.{needs}
 use Rattle.register.proofs.is_even_part.Statement.{statement}
 use Rattle.register.proofs.is_even_part.Tie as tie
 
 has-odd-parity-requires : tie.Need-has-odd-parity-requires
-has-odd-parity-requires c κs = tt
+has-odd-parity-requires c κs = search needs
 
 returns : tie.Need-returns
 unfolding evenPart
 returns c = holds _ _ (unsaid (c .before .has-odd-parity .ensures) (c .if1 .taken))
 
 has-odd-parity-requires-2 : tie.Need-has-odd-parity-requires-2
-has-odd-parity-requires-2 c κs = tt
+has-odd-parity-requires-2 c κs = search needs
 
 returns-2 : tie.Need-returns-2
 unfolding evenPart

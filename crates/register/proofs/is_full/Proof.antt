@@ -2,11 +2,12 @@
 use mathlib.Core.Path.{ap}
 use lib.Dec.{leb}
 use Rattle.register.specs.Refusals.{tableFull}
+use borrow.Author.Needs.{needs}
 use Rattle.register.proofs.is_full.Statement.{statement}
 use Rattle.register.proofs.is_full.Tie as tie
 
 customer-count-requires : tie.Need-customer-count-requires
-customer-count-requires c κs = tt
+customer-count-requires c κs = search needs
 
 returns : tie.Need-returns
 unfolding tableFull

@@ -5,14 +5,15 @@ use lib.Dec.{eqb}
 use Rattle.keys.specs.Keys.{checkValue}
 use Rattle.customer.proofs.Chain.{turned}
 use Rattle.register.specs.Refusals.{checkDiffers}
+use borrow.Author.Needs.{needs}
 use Rattle.register.proofs.is_other_check.Statement.{statement}
 use Rattle.register.proofs.is_other_check.Tie as tie
 
 combine-requires : tie.Need-combine-requires
-combine-requires c κs = tt
+combine-requires c κs = search needs
 
 check-value-requires : tie.Need-check-value-requires
-check-value-requires c κs = tt
+check-value-requires c κs = search needs
 
 returns : tie.Need-returns
 unfolding checkDiffers

@@ -8,7 +8,7 @@ use Rattle.register.proofs.order.Statement.{statement}
 use Rattle.register.proofs.order.Tie as tie
 
 ordering-refusal-requires : tie.Need-ordering-refusal-requires
-ordering-refusal-requires c κs = tt
+ordering-refusal-requires c κs = search needs
 
 same-length : tie.Need-same-length
 same-length c = search needs
@@ -33,25 +33,25 @@ returns-2 : tie.Need-returns-2
 returns-2 c = absurd (ordering-there _ (c .before .before .before .before .before .before .before .before .before .before .args .o) (sym (c .before .before .before .before .before .before .before .ordering-refusal .ensures) ∙ c .before .before .before .before .before .before .if1 .left) (sym (c .before .before .find .ensures) ∙ c .enum-told .given .1))
 
 load-requires : tie.Need-load-requires
-load-requires c κs = tt
+load-requires c κs = search needs
 
 settings-requires : tie.Need-settings-requires
-settings-requires c κs = tt
+settings-requires c κs = search needs
 
 take-key-requires : tie.Need-take-key-requires
-take-key-requires c κs = tt
+take-key-requires c κs = search needs
 
 with-working-requires : tie.Need-with-working-requires
-with-working-requires c κs = tt
+with-working-requires c κs = search needs
 
 store-requires : tie.Need-store-requires
-store-requires c κs = tt
+store-requires c κs = search needs
 
 store-seed-requires : tie.Need-store-seed-requires
-store-seed-requires c κs = tt
+store-seed-requires c κs = search needs
 
 store-day-requires : tie.Need-store-day-requires
-store-day-requires c κs = tt
+store-day-requires c κs = search needs
 
 same-length-3 : tie.Need-same-length-3
 same-length-3 c = search needs

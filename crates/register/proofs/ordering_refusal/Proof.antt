@@ -45,14 +45,14 @@ unfolding orderingRefusals noTable
 past4 c = past3 (c .before .before .before .before) ∙ lowest-next _ _ (said (c .before .is-changing .ensures ∙ ap (λ (d : Customer). changing (d .working .previous) (c .before .before .before .before .before .before .before .before .before .before .before .before .before .before .before .args .o .today .yymmdd)) (c .before .before .before .load .ensures ∙ sym (named-at _ _ _ (sym (c .before .before .before .before .before .before .before .find .ensures) ∙ c .before .before .before .before .before .i .given .1)))) (c .if3 .left))
 
 is-table-requires : tie.Need-is-table-requires
-is-table-requires c κs = tt
+is-table-requires c κs = search needs
 
 returns : tie.Need-returns
 unfolding orderingAnswer orderingRefusals noTable
 returns c = sym (lowest-first _ _ (unsaid (c .before .is-table .ensures) (c .if1 .taken)))
 
 is-bad-day-requires : tie.Need-is-bad-day-requires
-is-bad-day-requires c κs = tt
+is-bad-day-requires c κs = search needs
 
 returns-2 : tie.Need-returns-2
 unfolding orderingAnswer orderingRefusals noTable
@@ -72,10 +72,10 @@ unfolding orderingAnswer orderingRefusals noTable
 returns-3 c = sym (past2 (c .before .before .before .before) ∙ lowest-first _ _ (not-there _ _ (sym (c .before .before .find .ensures) ∙ c .enum-told .given .1)))
 
 load-requires : tie.Need-load-requires
-load-requires c κs = tt
+load-requires c κs = search needs
 
 is-changing-requires : tie.Need-is-changing-requires
-is-changing-requires c κs = tt
+is-changing-requires c κs = search needs
 
 returns-4 : tie.Need-returns-4
 unfolding orderingAnswer orderingRefusals noTable

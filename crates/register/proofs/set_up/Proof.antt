@@ -8,7 +8,7 @@ use Rattle.register.proofs.set_up.Statement.{statement}
 use Rattle.register.proofs.set_up.Tie as tie
 
 setting-up-refusal-requires : tie.Need-setting-up-refusal-requires
-setting-up-refusal-requires c κs = tt
+setting-up-refusal-requires c κs = search needs
 
 same-length : tie.Need-same-length
 same-length c = search needs
@@ -18,7 +18,7 @@ unfolding settingUpLeaves
 returns c = (c .before .setting-up-refusal .ensures, refused-as _ _ _ _ (c .before .setting-up-refusal .ensures) (c .if1 .taken))
 
 set-up-requires : tie.Need-set-up-requires
-set-up-requires c κs = tt
+set-up-requires c κs = search needs
 
 same-length-2 : tie.Need-same-length-2
 same-length-2 c = search needs

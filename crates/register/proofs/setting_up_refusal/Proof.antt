@@ -30,7 +30,7 @@ unfolding settingUpRefusals
 past2 c = past1 (c .before .before .before .before .before .before .before .before .before .before .before .before .before .before) ∙ lowest-next _ _ (either-none _ _ (agree _ _ (c .before .before .before .before .before .before .before .before .before .before .before .before .before .if2 .left)) (either-none _ _ (unsaid (c .before .before .before .before .before .before .before .before .before .before .is-sound-who .ensures) (c .before .before .before .before .before .before .before .before .before .if3 .left)) (either-none _ _ (unsaid (c .before .before .before .before .before .before .is-sound-name .ensures) (c .before .before .before .before .before .if4 .left)) (either-none _ _ (unsaid (c .before .before .before .before .is-floor .ensures) (c .before .before .before .if5 .left)) (either-none _ _ (le-ltb 200 _ (c .before .before .if6 .left)) (unsaid (c .before .are-rising .ensures) (c .if7 .left)))))))
 
 are-real-requires : tie.Need-are-real-requires
-are-real-requires c κs = tt
+are-real-requires c κs = search needs
 
 returns : tie.Need-returns
 unfolding settingUpAnswer settingUpRefusals
@@ -44,7 +44,7 @@ slice-aggregate-is-sound-who : tie.Need-slice-aggregate-is-sound-who
 slice-aggregate-is-sound-who c = search needs
 
 is-sound-who-requires : tie.Need-is-sound-who-requires
-is-sound-who-requires c κs = tt
+is-sound-who-requires c κs = search needs
 
 returns-3 : tie.Need-returns-3
 unfolding settingUpAnswer settingUpRefusals
@@ -54,14 +54,14 @@ slice-aggregate-is-sound-name : tie.Need-slice-aggregate-is-sound-name
 slice-aggregate-is-sound-name c = search needs
 
 is-sound-name-requires : tie.Need-is-sound-name-requires
-is-sound-name-requires c κs = tt
+is-sound-name-requires c κs = search needs
 
 returns-4 : tie.Need-returns-4
 unfolding settingUpAnswer settingUpRefusals
 returns-4 c = sym (past1 (c .before .before .before .before .before .before .before .before .before) ∙ lowest-first _ _ (either-right _ _ (either-right _ _ (either-left _ _ (unsaid (c .before .is-sound-name .ensures) (c .if4 .taken))))))
 
 is-floor-requires : tie.Need-is-floor-requires
-is-floor-requires c κs = tt
+is-floor-requires c κs = search needs
 
 returns-5 : tie.Need-returns-5
 unfolding settingUpAnswer settingUpRefusals
@@ -72,7 +72,7 @@ unfolding settingUpAnswer settingUpRefusals
 returns-6 c = sym (past1 (c .before .before .before .before .before .before .before .before .before .before .before .before) ∙ lowest-first _ _ (either-right _ _ (either-right _ _ (either-right _ _ (either-right _ _ (either-left _ _ (lt-ltb 200 _ (c .if6 .taken))))))))
 
 are-rising-requires : tie.Need-are-rising-requires
-are-rising-requires c κs = tt
+are-rising-requires c κs = search needs
 
 returns-7 : tie.Need-returns-7
 unfolding settingUpAnswer settingUpRefusals

@@ -17,7 +17,7 @@ unfolding customerAdded
 returns c = sym (skips _ _ _ (fails-left _ _ (ne-eqb _ _ (c .if1 .taken))))
 
 count-at-requires : tie.Need-count-at-requires
-count-at-requires c κs = tt
+count-at-requires c κs = search needs
 
 same-length : tie.Need-same-length
 same-length c = search needs
@@ -29,7 +29,7 @@ returns-2 c =
     sym (skips _ _ _ (fails-right _ _ (le-ltb (customerCount b) 32 (omega (arith, c .before .count-at .ensures .0, c .if2 .taken)))))
 
 customers-start-requires : tie.Need-customers-start-requires
-customers-start-requires c κs = tt
+customers-start-requires c κs = search needs
 
 mul-store-at : tie.Need-mul-store-at
 mul-store-at c = search needs
@@ -38,7 +38,7 @@ add-store-at : tie.Need-add-store-at
 add-store-at c = search needs
 
 store-at-requires : tie.Need-store-at-requires
-store-at-requires c κs = tt
+store-at-requires c κs = search needs
 
 add-write4 : tie.Need-add-write4
 add-write4 c = search needs
@@ -47,7 +47,7 @@ cast-write4 : tie.Need-cast-write4
 cast-write4 c = search needs
 
 write4-requires : tie.Need-write4-requires
-write4-requires c κs = tt
+write4-requires c κs = search needs
 
 add-write4-2 : tie.Need-add-write4-2
 add-write4-2 c = search needs
@@ -62,7 +62,7 @@ cast-write4-2 : tie.Need-cast-write4-2
 cast-write4-2 c = search needs
 
 write4-requires-2 : tie.Need-write4-requires-2
-write4-requires-2 c κs = tt
+write4-requires-2 c κs = search needs
 
 same-length-2 : tie.Need-same-length-2
 same-length-2 c = search needs

@@ -12,7 +12,7 @@ returns : tie.Need-returns
 returns c = sym (ap (λ (t : Table). length (t .customers)) (table-other _ (c .if1 .taken)))
 
 count-at-requires : tie.Need-count-at-requires
-count-at-requires c κs = tt
+count-at-requires c κs = search needs
 
 cast-result : tie.Need-cast-result
 cast-result c = search needs

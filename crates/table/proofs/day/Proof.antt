@@ -1,5 +1,6 @@
 -- The day stands in the header of bytes of the right length, and others say day 0.
 use mathlib.Core.Path.{sym, ap, _∙_}
+use borrow.Author.Needs.{needs}
 use Rattle.table.specs.Table.{Table}
 use Rattle.table.proofs.Decode.{table-sized, table-other}
 use Rattle.table.proofs.day.Statement.{statement}
@@ -9,7 +10,7 @@ returns : tie.Need-returns
 returns c = sym (ap (λ (t : Table). t .day) (table-other _ (c .if1 .taken)))
 
 read4-requires : tie.Need-read4-requires
-read4-requires c κs = tt
+read4-requires c κs = search needs
 
 returns-2 : tie.Need-returns-2
 returns-2 c = c .read4 .ensures ∙ sym (ap (λ (t : Table). t .day) (table-sized _ (c .before .if1 .left)))

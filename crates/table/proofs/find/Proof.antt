@@ -13,10 +13,10 @@ unfolding placeOf placeFrom
 returns c = sym (ap (λ (t : Table). placeOf t (c .before .before .args .who)) (table-other _ (c .if1 .taken)))
 
 customers-start-requires : tie.Need-customers-start-requires
-customers-start-requires c κs = tt
+customers-start-requires c κs = search needs
 
 count-at-requires : tie.Need-count-at-requires
-count-at-requires c κs = tt
+count-at-requires c κs = search needs
 
 find-from-requires : tie.Need-find-from-requires
 find-from-requires c κs = search needs

@@ -16,7 +16,7 @@ unfolding holidaysOf
 returns c = sym (ap holidaysOf (table-other _ (c .if1 .taken)))
 
 count-at-requires : tie.Need-count-at-requires
-count-at-requires c κs = tt
+count-at-requires c κs = search needs
 
 dates-at-requires : tie.Need-dates-at-requires
 dates-at-requires c κs = search needs

@@ -16,33 +16,33 @@ returns : tie.Need-returns
 returns c = no-table _ _ (λ f. eq-eqb _ _ (f .size)) (ne-eqb _ _ (c .if1 .taken))
 
 is-header-requires : tie.Need-is-header-requires
-is-header-requires c κs = tt
+is-header-requires c κs = search needs
 
 returns-2 : tie.Need-returns-2
 returns-2 c = no-table _ _ (λ f. f .head) (sym (c .before .is-header .ensures) ∙ not-true _ (c .if2 .taken))
 
 read4-requires : tie.Need-read4-requires
-read4-requires c κs = tt
+read4-requires c κs = search needs
 
 is-real-requires : tie.Need-is-real-requires
-is-real-requires c κs = tt
+is-real-requires c κs = search needs
 
 returns-3 : tie.Need-returns-3
 returns-3 c =
     no-table _ _ (λ f. f .day) (ap realDate (sym (c .before .before .read4 .ensures)) ∙ sym (c .before .is-real .ensures) ∙ not-true _ (c .if3 .taken))
 
 settings-at-requires : tie.Need-settings-at-requires
-settings-at-requires c κs = tt
+settings-at-requires c κs = search needs
 
 is-sound-settings-requires : tie.Need-is-sound-settings-requires
-is-sound-settings-requires c κs = tt
+is-sound-settings-requires c κs = search needs
 
 returns-4 : tie.Need-returns-4
 returns-4 c =
     no-table _ _ (λ f. f .settings) (ap soundSettings (sym (c .before .before .settings-at .ensures)) ∙ sym (c .before .is-sound-settings .ensures) ∙ not-true _ (c .if4 .taken))
 
 count-at-requires : tie.Need-count-at-requires
-count-at-requires c κs = tt
+count-at-requires c κs = search needs
 
 are-dates-requires : tie.Need-are-dates-requires
 are-dates-requires c κs = search needs
@@ -54,10 +54,10 @@ returns-5 c =
     (ap (λ (n : ℕ). okDates (datesAt holidaysStart n b)) (sym (c .before .before .count-at .ensures .0)) ∙ sym (c .before .are-dates .ensures) ∙ not-true _ (c .if5 .taken))
 
 customers-start-requires : tie.Need-customers-start-requires
-customers-start-requires c κs = tt
+customers-start-requires c κs = search needs
 
 count-at-requires-2 : tie.Need-count-at-requires-2
-count-at-requires-2 c κs = tt
+count-at-requires-2 c κs = search needs
 
 are-customers-requires : tie.Need-are-customers-requires
 are-customers-requires c κs = search needs

@@ -9,16 +9,16 @@ use Rattle.table.proofs.load.Statement.{statement}
 use Rattle.table.proofs.load.Tie as tie
 
 load-at-requires : tie.Need-load-at-requires
-load-at-requires c κs = tt
+load-at-requires c κs = search needs
 
 returns : tie.Need-returns
 returns c = c .load-at .ensures ∙ load-other _ _ (c .before .if1 .taken)
 
 count-at-requires : tie.Need-count-at-requires
-count-at-requires c κs = tt
+count-at-requires c κs = search needs
 
 load-at-requires-2 : tie.Need-load-at-requires-2
-load-at-requires-2 c κs = tt
+load-at-requires-2 c κs = search needs
 
 returns-2 : tie.Need-returns-2
 returns-2 c =
@@ -26,7 +26,7 @@ returns-2 c =
     ∙ load-past _ _ (c .before .before .before .if1 .left) (omega (arith, c .before .before .count-at .ensures .0, c .before .if2 .taken))
 
 customers-start-requires : tie.Need-customers-start-requires
-customers-start-requires c κs = tt
+customers-start-requires c κs = search needs
 
 mul-load-at : tie.Need-mul-load-at
 mul-load-at c = search needs
@@ -35,7 +35,7 @@ add-load-at : tie.Need-add-load-at
 add-load-at c = search needs
 
 load-at-requires-3 : tie.Need-load-at-requires-3
-load-at-requires-3 c κs = tt
+load-at-requires-3 c κs = search needs
 
 returns-3 : tie.Need-returns-3
 returns-3 c =

@@ -25,7 +25,7 @@ store-header-requires : tie.Need-store-header-requires
 store-header-requires c κs = search needs
 
 store-settings-requires : tie.Need-store-settings-requires
-store-settings-requires c κs = tt
+store-settings-requires c κs = search needs
 
 store-dates-requires : tie.Need-store-dates-requires
 store-dates-requires c κs = search needs

@@ -17,7 +17,7 @@ unfolding customerStored
 returns c = sym (skips _ _ _ (fails-left _ _ (ne-eqb _ _ (c .if1 .taken))))
 
 count-at-requires : tie.Need-count-at-requires
-count-at-requires c κs = tt
+count-at-requires c κs = search needs
 
 same-length : tie.Need-same-length
 same-length c = search needs
@@ -29,7 +29,7 @@ returns-2 c =
     sym (skips _ _ _ (fails-right _ _ (le-ltb (a .i) (customerCount (a .t .now)) (omega (arith, c .before .count-at .ensures .0, c .if2 .taken)))))
 
 customers-start-requires : tie.Need-customers-start-requires
-customers-start-requires c κs = tt
+customers-start-requires c κs = search needs
 
 mul-store-at : tie.Need-mul-store-at
 mul-store-at c = search needs
@@ -38,7 +38,7 @@ add-store-at : tie.Need-add-store-at
 add-store-at c = search needs
 
 store-at-requires : tie.Need-store-at-requires
-store-at-requires c κs = tt
+store-at-requires c κs = search needs
 
 same-length-2 : tie.Need-same-length-2
 same-length-2 c = search needs

@@ -12,7 +12,7 @@ unfolding dayStored
 returns c = sym (skips _ _ _ (ne-eqb _ _ (c .if1 .taken)))
 
 write4-requires : tie.Need-write4-requires
-write4-requires c κs = tt
+write4-requires c κs = search needs
 
 same-length : tie.Need-same-length
 same-length c = search needs

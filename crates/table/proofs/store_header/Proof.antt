@@ -14,22 +14,22 @@ add-start : tie.Need-add-start
 add-start c = search needs
 
 write4-requires : tie.Need-write4-requires
-write4-requires c κs = tt
+write4-requires c κs = search needs
 
 write4-requires-2 : tie.Need-write4-requires-2
-write4-requires-2 c κs = tt
+write4-requires-2 c κs = search needs
 
 write4-requires-3 : tie.Need-write4-requires-3
-write4-requires-3 c κs = tt
+write4-requires-3 c κs = search needs
 
 write4-requires-4 : tie.Need-write4-requires-4
-write4-requires-4 c κs = tt
+write4-requires-4 c κs = search needs
 
 write4-requires-5 : tie.Need-write4-requires-5
-write4-requires-5 c κs = tt
+write4-requires-5 c κs = search needs
 
 write4-requires-6 : tie.Need-write4-requires-6
-write4-requires-6 c κs = tt
+write4-requires-6 c κs = search needs
 
 same-length : tie.Need-same-length
 same-length c = search needs

@@ -12,7 +12,7 @@ unfolding seedStored
 returns c = sym (skips _ _ _ (ne-eqb _ _ (c .if1 .taken)))
 
 write8-requires : tie.Need-write8-requires
-write8-requires c κs = tt
+write8-requires c κs = search needs
 
 same-length : tie.Need-same-length
 same-length c = search needs

@@ -7,22 +7,22 @@ use Rattle.verdict.proofs.accept.Statement.{statement}
 use Rattle.verdict.proofs.accept.Tie as tie
 
 grant-to-requires : tie.Need-grant-to-requires
-grant-to-requires c κs = tt
+grant-to-requires c κs = search needs
 
 marked-requires : tie.Need-marked-requires
-marked-requires c κs = tt
+marked-requires c κs = search needs
 
 sender-requires : tie.Need-sender-requires
-sender-requires c κs = tt
+sender-requires c κs = search needs
 
 find-requires : tie.Need-find-requires
 find-requires c κs = search needs
 
 store-record-requires : tie.Need-store-record-requires
-store-record-requires c κs = tt
+store-record-requires c κs = search needs
 
 store-seed-requires : tie.Need-store-seed-requires
-store-seed-requires c κs = tt
+store-seed-requires c κs = search needs
 
 same-length : tie.Need-same-length
 same-length c = search needs

@@ -6,19 +6,19 @@ use Rattle.verdict.proofs.check_esi.Statement.{statement}
 use Rattle.verdict.proofs.check_esi.Tie as tie
 
 customer-of-requires : tie.Need-customer-of-requires
-customer-of-requires c κs = tt
+customer-of-requires c κs = search needs
 
 holidays-in-requires : tie.Need-holidays-in-requires
-holidays-in-requires c κs = tt
+holidays-in-requires c κs = search needs
 
 cast-n : tie.Need-cast-n
 cast-n c = search needs
 
 form-faults-requires : tie.Need-form-faults-requires
-form-faults-requires c κs = tt
+form-faults-requires c κs = search needs
 
 party-faults-requires : tie.Need-party-faults-requires
-party-faults-requires c κs = tt
+party-faults-requires c κs = search needs
 
 array-share-prefix-dates : tie.Need-array-share-prefix-dates
 array-share-prefix-dates c = lent-room _ _ (c .before .before .before .before .holidays-in .ensures)
@@ -27,10 +27,10 @@ slice-aggregate-stamp-faults : tie.Need-slice-aggregate-stamp-faults
 slice-aggregate-stamp-faults c = lent-count _ _ (c .before .before .before .before .before .holidays-in .ensures)
 
 stamp-faults-requires : tie.Need-stamp-faults-requires
-stamp-faults-requires c κs = tt
+stamp-faults-requires c κs = search needs
 
 esi-key-faults-requires : tie.Need-esi-key-faults-requires
-esi-key-faults-requires c κs = tt
+esi-key-faults-requires c κs = search needs
 
 array-share-prefix-dates-2 : tie.Need-array-share-prefix-dates-2
 array-share-prefix-dates-2 c = lent-room _ _ (c .before .before .before .before .before .before .before .holidays-in .ensures)
@@ -39,19 +39,19 @@ slice-aggregate-room-faults : tie.Need-slice-aggregate-room-faults
 slice-aggregate-room-faults c = lent-count _ _ (c .before .before .before .before .before .before .before .before .holidays-in .ensures)
 
 room-faults-requires : tie.Need-room-faults-requires
-room-faults-requires c κs = tt
+room-faults-requires c κs = search needs
 
 or-else-requires : tie.Need-or-else-requires
-or-else-requires c κs = tt
+or-else-requires c κs = search needs
 
 or-else-requires-2 : tie.Need-or-else-requires-2
-or-else-requires-2 c κs = tt
+or-else-requires-2 c κs = search needs
 
 or-else-requires-3 : tie.Need-or-else-requires-3
-or-else-requires-3 c κs = tt
+or-else-requires-3 c κs = search needs
 
 or-else-requires-4 : tie.Need-or-else-requires-4
-or-else-requires-4 c κs = tt
+or-else-requires-4 c κs = search needs
 
 returns : tie.Need-returns
 returns c =

@@ -17,10 +17,10 @@ slice-aggregate-checksum : tie.Need-slice-aggregate-checksum
 slice-aggregate-checksum c = search needs
 
 checksum-requires : tie.Need-checksum-requires
-checksum-requires c κs = tt
+checksum-requires c κs = search needs
 
 checksum-field-requires : tie.Need-checksum-field-requires
-checksum-field-requires c κs = tt
+checksum-field-requires c κs = search needs
 
 returns : tie.Need-returns
 unfolding checksumDiffers

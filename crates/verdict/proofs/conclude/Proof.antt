@@ -8,13 +8,13 @@ enum-told : tie.Need-enum-told
 enum-told c = search needs
 
 accept-requires : tie.Need-accept-requires
-accept-requires c κs = tt
+accept-requires c κs = search needs
 
 cast-clock-value : tie.Need-cast-clock-value
 cast-clock-value c = search needs
 
 clock-value-requires : tie.Need-clock-value-requires
-clock-value-requires c κs = tt
+clock-value-requires c κs = search needs
 
 enum-known-fault : tie.Need-enum-known-fault
 enum-known-fault c = search needs

@@ -7,7 +7,7 @@ use Rattle.verdict.proofs.customer_of.Statement.{statement}
 use Rattle.verdict.proofs.customer_of.Tie as tie
 
 sender-requires : tie.Need-sender-requires
-sender-requires c κs = tt
+sender-requires c κs = search needs
 
 find-requires : tie.Need-find-requires
 find-requires c κs = search needs
@@ -16,19 +16,19 @@ enum-known-place : tie.Need-enum-known-place
 enum-known-place c = search needs
 
 load-requires : tie.Need-load-requires
-load-requires c κs = tt
+load-requires c κs = search needs
 
 enum-told : tie.Need-enum-told
 enum-told c = search needs
 
 customer-count-requires : tie.Need-customer-count-requires
-customer-count-requires c κs = tt
+customer-count-requires c κs = search needs
 
 cast-load : tie.Need-cast-load
 cast-load c = search needs
 
 load-requires-2 : tie.Need-load-requires-2
-load-requires-2 c κs = tt
+load-requires-2 c κs = search needs
 
 returns : tie.Need-returns
 returns c = found-at _ _ _ _ (c .before .before .before .before .find .ensures ∙ ap (placeOf _) (c .before .before .before .before .before .sender .ensures)) _ (c .before .before .place .given .1) (c .load .ensures)

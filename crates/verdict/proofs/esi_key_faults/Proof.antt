@@ -5,44 +5,45 @@ use Rattle.changeover.specs.declared.Key.{Key}
 use Rattle.customer.proofs.Chain.{turned}
 use Rattle.verdict.specs.Checks.{checksumDiffers}
 use Rattle.verdict.proofs.Order.{one, next}
+use borrow.Author.Needs.{needs}
 use Rattle.verdict.proofs.esi_key_faults.Statement.{statement}
 use Rattle.verdict.proofs.esi_key_faults.Tie as tie
 
 date-requires : tie.Need-date-requires
-date-requires c κs = tt
+date-requires c κs = search needs
 
 working-generation-requires : tie.Need-working-generation-requires
-working-generation-requires c κs = tt
+working-generation-requires c κs = search needs
 
 held-requires : tie.Need-held-requires
-held-requires c κs = tt
+held-requires c κs = search needs
 
 transport-generation-requires : tie.Need-transport-generation-requires
-transport-generation-requires c κs = tt
+transport-generation-requires c κs = search needs
 
 is-good-for-requires : tie.Need-is-good-for-requires
-is-good-for-requires c κs = tt
+is-good-for-requires c κs = search needs
 
 fault-if-requires : tie.Need-fault-if-requires
-fault-if-requires c κs = tt
+fault-if-requires c κs = search needs
 
 is-good-for-requires-2 : tie.Need-is-good-for-requires-2
-is-good-for-requires-2 c κs = tt
+is-good-for-requires-2 c κs = search needs
 
 fault-if-requires-2 : tie.Need-fault-if-requires-2
-fault-if-requires-2 c κs = tt
+fault-if-requires-2 c κs = search needs
 
 checksum-differs-requires : tie.Need-checksum-differs-requires
-checksum-differs-requires c κs = tt
+checksum-differs-requires c κs = search needs
 
 fault-if-requires-3 : tie.Need-fault-if-requires-3
-fault-if-requires-3 c κs = tt
+fault-if-requires-3 c κs = search needs
 
 or-else-requires : tie.Need-or-else-requires
-or-else-requires c κs = tt
+or-else-requires c κs = search needs
 
 or-else-requires-2 : tie.Need-or-else-requires-2
-or-else-requires-2 c κs = tt
+or-else-requires-2 c κs = search needs
 
 returns : tie.Need-returns
 returns c =

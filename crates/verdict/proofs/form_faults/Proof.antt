@@ -1,11 +1,12 @@
 -- The first fault of form is the first failing check of form.
 use mathlib.Core.Path.{_∙_}
 use Rattle.verdict.proofs.Laws.{form-is}
+use borrow.Author.Needs.{needs}
 use Rattle.verdict.proofs.form_faults.Statement.{statement}
 use Rattle.verdict.proofs.form_faults.Tie as tie
 
 fault-of-requires : tie.Need-fault-of-requires
-fault-of-requires c κs = tt
+fault-of-requires c κs = search needs
 
 returns : tie.Need-returns
 returns c = c .fault-of .ensures ∙ form-is _ _

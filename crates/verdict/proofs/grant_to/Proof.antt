@@ -1,25 +1,26 @@
 -- Each part of the grant is what its call says.
 use Rattle.verdict.proofs.Judged.{granted-as}
+use borrow.Author.Needs.{needs}
 use Rattle.verdict.proofs.grant_to.Statement.{statement}
 use Rattle.verdict.proofs.grant_to.Tie as tie
 
 customer-of-requires : tie.Need-customer-of-requires
-customer-of-requires c κs = tt
+customer-of-requires c κs = search needs
 
 settings-requires : tie.Need-settings-requires
-settings-requires c κs = tt
+settings-requires c κs = search needs
 
 clock-value-requires : tie.Need-clock-value-requires
-clock-value-requires c κs = tt
+clock-value-requires c κs = search needs
 
 working-generation-requires : tie.Need-working-generation-requires
-working-generation-requires c κs = tt
+working-generation-requires c κs = search needs
 
 request-requires : tie.Need-request-requires
-request-requires c κs = tt
+request-requires c κs = search needs
 
 grant-requires : tie.Need-grant-requires
-grant-requires c κs = tt
+grant-requires c κs = search needs
 
 returns : tie.Need-returns
 returns c =

@@ -13,7 +13,7 @@ enum-told-2 : tie.Need-enum-told-2
 enum-told-2 c = search needs
 
 is-good-for-requires : tie.Need-is-good-for-requires
-is-good-for-requires c κs = tt
+is-good-for-requires c κs = search needs
 
 returns : tie.Need-returns
 unfolding isMissing either

@@ -5,10 +5,10 @@ use Rattle.verdict.proofs.judge_esi.Statement.{statement}
 use Rattle.verdict.proofs.judge_esi.Tie as tie
 
 check-esi-requires : tie.Need-check-esi-requires
-check-esi-requires c κs = tt
+check-esi-requires c κs = search needs
 
 conclude-requires : tie.Need-conclude-requires
-conclude-requires c κs = tt
+conclude-requires c κs = search needs
 
 same-length : tie.Need-same-length
 same-length c = search needs

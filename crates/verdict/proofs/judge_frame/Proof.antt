@@ -5,13 +5,13 @@ use Rattle.verdict.proofs.judge_frame.Statement.{statement}
 use Rattle.verdict.proofs.judge_frame.Tie as tie
 
 key-or-0-requires : tie.Need-key-or-0-requires
-key-or-0-requires c κs = tt
+key-or-0-requires c κs = search needs
 
 check-frame-requires : tie.Need-check-frame-requires
-check-frame-requires c κs = tt
+check-frame-requires c κs = search needs
 
 conclude-requires : tie.Need-conclude-requires
-conclude-requires c κs = tt
+conclude-requires c κs = search needs
 
 same-length : tie.Need-same-length
 same-length c = search needs

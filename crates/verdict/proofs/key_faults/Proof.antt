@@ -10,77 +10,78 @@ use Rattle.acceptance.specs.Stamps.{onceUsed}
 use Rattle.customer.proofs.Chain.{turned}
 use Rattle.verdict.specs.Checks.{isMissing, checksumDiffers, digestDiffers, keyChecks}
 use Rattle.verdict.proofs.Order.{one, next}
+use borrow.Author.Needs.{needs}
 use Rattle.verdict.proofs.key_faults.Statement.{statement}
 use Rattle.verdict.proofs.key_faults.Tie as tie
 
 date-requires : tie.Need-date-requires
-date-requires c κs = tt
+date-requires c κs = search needs
 
 working-generation-requires : tie.Need-working-generation-requires
-working-generation-requires c κs = tt
+working-generation-requires c κs = search needs
 
 held-requires : tie.Need-held-requires
-held-requires c κs = tt
+held-requires c κs = search needs
 
 key-or-0-requires : tie.Need-key-or-0-requires
-key-or-0-requires c κs = tt
+key-or-0-requires c κs = search needs
 
 transport-generation-requires : tie.Need-transport-generation-requires
-transport-generation-requires c κs = tt
+transport-generation-requires c κs = search needs
 
 is-key-refused-requires : tie.Need-is-key-refused-requires
-is-key-refused-requires c κs = tt
+is-key-refused-requires c κs = search needs
 
 fault-if-requires : tie.Need-fault-if-requires
-fault-if-requires c κs = tt
+fault-if-requires c κs = search needs
 
 is-good-for-requires : tie.Need-is-good-for-requires
-is-good-for-requires c κs = tt
+is-good-for-requires c κs = search needs
 
 fault-if-requires-2 : tie.Need-fault-if-requires-2
-fault-if-requires-2 c κs = tt
+fault-if-requires-2 c κs = search needs
 
 is-once-used-requires : tie.Need-is-once-used-requires
-is-once-used-requires c κs = tt
+is-once-used-requires c κs = search needs
 
 fault-if-requires-3 : tie.Need-fault-if-requires-3
-fault-if-requires-3 c κs = tt
+fault-if-requires-3 c κs = search needs
 
 has-odd-parity-requires : tie.Need-has-odd-parity-requires
-has-odd-parity-requires c κs = tt
+has-odd-parity-requires c κs = search needs
 
 fault-if-requires-4 : tie.Need-fault-if-requires-4
-fault-if-requires-4 c κs = tt
+fault-if-requires-4 c κs = search needs
 
 digest-field-requires : tie.Need-digest-field-requires
-digest-field-requires c κs = tt
+digest-field-requires c κs = search needs
 
 digest-differs-requires : tie.Need-digest-differs-requires
-digest-differs-requires c κs = tt
+digest-differs-requires c κs = search needs
 
 fault-if-requires-5 : tie.Need-fault-if-requires-5
-fault-if-requires-5 c κs = tt
+fault-if-requires-5 c κs = search needs
 
 checksum-differs-requires : tie.Need-checksum-differs-requires
-checksum-differs-requires c κs = tt
+checksum-differs-requires c κs = search needs
 
 fault-if-requires-6 : tie.Need-fault-if-requires-6
-fault-if-requires-6 c κs = tt
+fault-if-requires-6 c κs = search needs
 
 or-else-requires : tie.Need-or-else-requires
-or-else-requires c κs = tt
+or-else-requires c κs = search needs
 
 or-else-requires-2 : tie.Need-or-else-requires-2
-or-else-requires-2 c κs = tt
+or-else-requires-2 c κs = search needs
 
 or-else-requires-3 : tie.Need-or-else-requires-3
-or-else-requires-3 c κs = tt
+or-else-requires-3 c κs = search needs
 
 or-else-requires-4 : tie.Need-or-else-requires-4
-or-else-requires-4 c κs = tt
+or-else-requires-4 c κs = search needs
 
 or-else-requires-5 : tie.Need-or-else-requires-5
-or-else-requires-5 c κs = tt
+or-else-requires-5 c κs = search needs
 
 returns : tie.Need-returns
 unfolding keyChecks

@@ -9,7 +9,7 @@ use Rattle.verdict.proofs.marked.Statement.{statement}
 use Rattle.verdict.proofs.marked.Tie as tie
 
 holidays-in-requires : tie.Need-holidays-in-requires
-holidays-in-requires c κs = tt
+holidays-in-requires c κs = search needs
 
 cast-n : tie.Need-cast-n
 cast-n c = search needs
@@ -21,10 +21,10 @@ slice-aggregate-with-stamp : tie.Need-slice-aggregate-with-stamp
 slice-aggregate-with-stamp c = lent-count _ _ (c .before .before .before .holidays-in .ensures)
 
 stamp-requires : tie.Need-stamp-requires
-stamp-requires c κs = tt
+stamp-requires c κs = search needs
 
 with-stamp-requires : tie.Need-with-stamp-requires
-with-stamp-requires c κs = tt
+with-stamp-requires c κs = search needs
 
 returns : tie.Need-returns
 returns c =

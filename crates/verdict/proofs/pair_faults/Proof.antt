@@ -12,70 +12,70 @@ differs-requires : tie.Need-differs-requires
 differs-requires c κs = search needs
 
 fault-if-requires : tie.Need-fault-if-requires
-fault-if-requires c κs = tt
+fault-if-requires c κs = search needs
 
 differs-requires-2 : tie.Need-differs-requires-2
 differs-requires-2 c κs = search needs
 
 fault-if-requires-2 : tie.Need-fault-if-requires-2
-fault-if-requires-2 c κs = tt
+fault-if-requires-2 c κs = search needs
 
 differs-requires-3 : tie.Need-differs-requires-3
 differs-requires-3 c κs = search needs
 
 fault-if-requires-3 : tie.Need-fault-if-requires-3
-fault-if-requires-3 c κs = tt
+fault-if-requires-3 c κs = search needs
 
 differs-requires-4 : tie.Need-differs-requires-4
 differs-requires-4 c κs = search needs
 
 fault-if-requires-4 : tie.Need-fault-if-requires-4
-fault-if-requires-4 c κs = tt
+fault-if-requires-4 c κs = search needs
 
 differs-requires-5 : tie.Need-differs-requires-5
 differs-requires-5 c κs = search needs
 
 fault-if-requires-5 : tie.Need-fault-if-requires-5
-fault-if-requires-5 c κs = tt
+fault-if-requires-5 c κs = search needs
 
 differs-requires-6 : tie.Need-differs-requires-6
 differs-requires-6 c κs = search needs
 
 fault-if-requires-6 : tie.Need-fault-if-requires-6
-fault-if-requires-6 c κs = tt
+fault-if-requires-6 c κs = search needs
 
 differs-requires-7 : tie.Need-differs-requires-7
 differs-requires-7 c κs = search needs
 
 fault-if-requires-7 : tie.Need-fault-if-requires-7
-fault-if-requires-7 c κs = tt
+fault-if-requires-7 c κs = search needs
 
 differs-requires-8 : tie.Need-differs-requires-8
 differs-requires-8 c κs = search needs
 
 fault-if-requires-8 : tie.Need-fault-if-requires-8
-fault-if-requires-8 c κs = tt
+fault-if-requires-8 c κs = search needs
 
 or-else-requires : tie.Need-or-else-requires
-or-else-requires c κs = tt
+or-else-requires c κs = search needs
 
 or-else-requires-2 : tie.Need-or-else-requires-2
-or-else-requires-2 c κs = tt
+or-else-requires-2 c κs = search needs
 
 or-else-requires-3 : tie.Need-or-else-requires-3
-or-else-requires-3 c κs = tt
+or-else-requires-3 c κs = search needs
 
 or-else-requires-4 : tie.Need-or-else-requires-4
-or-else-requires-4 c κs = tt
+or-else-requires-4 c κs = search needs
 
 or-else-requires-5 : tie.Need-or-else-requires-5
-or-else-requires-5 c κs = tt
+or-else-requires-5 c κs = search needs
 
 or-else-requires-6 : tie.Need-or-else-requires-6
-or-else-requires-6 c κs = tt
+or-else-requires-6 c κs = search needs
 
 or-else-requires-7 : tie.Need-or-else-requires-7
-or-else-requires-7 c κs = tt
+or-else-requires-7 c κs = search needs
 
 returns : tie.Need-returns
 unfolding pairChecks fieldText receiverOf senderOf stampTextOf offsetIn widthIn pick

@@ -13,25 +13,25 @@ use Rattle.verdict.proofs.party_faults.Statement.{statement}
 use Rattle.verdict.proofs.party_faults.Tie as tie
 
 settings-requires : tie.Need-settings-requires
-settings-requires c κs = tt
+settings-requires c κs = search needs
 
 receiver-requires : tie.Need-receiver-requires
-receiver-requires c κs = tt
+receiver-requires c κs = search needs
 
 sender-requires : tie.Need-sender-requires
-sender-requires c κs = tt
+sender-requires c κs = search needs
 
 find-requires : tie.Need-find-requires
 find-requires c κs = search needs
 
 customer-of-requires : tie.Need-customer-of-requires
-customer-of-requires c κs = tt
+customer-of-requires c κs = search needs
 
 version-requires : tie.Need-version-requires
-version-requires c κs = tt
+version-requires c κs = search needs
 
 fault-if-requires : tie.Need-fault-if-requires
-fault-if-requires c κs = tt
+fault-if-requires c κs = search needs
 
 slice-aggregate-same-bytes : tie.Need-slice-aggregate-same-bytes
 slice-aggregate-same-bytes c = search needs
@@ -40,28 +40,28 @@ slice-aggregate-same-bytes-2 : tie.Need-slice-aggregate-same-bytes-2
 slice-aggregate-same-bytes-2 c = search needs
 
 same-bytes-requires : tie.Need-same-bytes-requires
-same-bytes-requires c κs = tt
+same-bytes-requires c κs = search needs
 
 fault-if-requires-2 : tie.Need-fault-if-requires-2
-fault-if-requires-2 c κs = tt
+fault-if-requires-2 c κs = search needs
 
 is-no-place-requires : tie.Need-is-no-place-requires
-is-no-place-requires c κs = tt
+is-no-place-requires c κs = search needs
 
 fault-if-requires-3 : tie.Need-fault-if-requires-3
-fault-if-requires-3 c κs = tt
+fault-if-requires-3 c κs = search needs
 
 fault-if-requires-4 : tie.Need-fault-if-requires-4
-fault-if-requires-4 c κs = tt
+fault-if-requires-4 c κs = search needs
 
 or-else-requires : tie.Need-or-else-requires
-or-else-requires c κs = tt
+or-else-requires c κs = search needs
 
 or-else-requires-2 : tie.Need-or-else-requires-2
-or-else-requires-2 c κs = tt
+or-else-requires-2 c κs = search needs
 
 or-else-requires-3 : tie.Need-or-else-requires-3
-or-else-requires-3 c κs = tt
+or-else-requires-3 c κs = search needs
 
 returns : tie.Need-returns
 unfolding partyChecks

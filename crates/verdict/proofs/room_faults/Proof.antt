@@ -7,14 +7,15 @@ use lib.ListN.{length}
 use Rattle.acceptance.specs.Stamps.{liveStamps}
 use Rattle.verdict.specs.Checks.{roomChecks}
 use Rattle.verdict.proofs.Order.{one}
+use borrow.Author.Needs.{needs}
 use Rattle.verdict.proofs.room_faults.Statement.{statement}
 use Rattle.verdict.proofs.room_faults.Tie as tie
 
 live-count-requires : tie.Need-live-count-requires
-live-count-requires c κs = tt
+live-count-requires c κs = search needs
 
 fault-if-requires : tie.Need-fault-if-requires
-fault-if-requires c κs = tt
+fault-if-requires c κs = search needs
 
 returns : tie.Need-returns
 unfolding roomChecks

@@ -7,38 +7,39 @@ use Rattle.calendar.specs.Banking.{tooOld}
 use Rattle.acceptance.specs.Stamps.{holdsStamp}
 use Rattle.verdict.specs.Checks.{stampChecks}
 use Rattle.verdict.proofs.Order.{one, next}
+use borrow.Author.Needs.{needs}
 use Rattle.verdict.proofs.stamp_faults.Statement.{statement}
 use Rattle.verdict.proofs.stamp_faults.Tie as tie
 
 date-requires : tie.Need-date-requires
-date-requires c κs = tt
+date-requires c κs = search needs
 
 is-too-old-requires : tie.Need-is-too-old-requires
-is-too-old-requires c κs = tt
+is-too-old-requires c κs = search needs
 
 fault-if-requires : tie.Need-fault-if-requires
-fault-if-requires c κs = tt
+fault-if-requires c κs = search needs
 
 before-requires : tie.Need-before-requires
-before-requires c κs = tt
+before-requires c κs = search needs
 
 fault-if-requires-2 : tie.Need-fault-if-requires-2
-fault-if-requires-2 c κs = tt
+fault-if-requires-2 c κs = search needs
 
 stamp-requires : tie.Need-stamp-requires
-stamp-requires c κs = tt
+stamp-requires c κs = search needs
 
 holds-stamp-requires : tie.Need-holds-stamp-requires
-holds-stamp-requires c κs = tt
+holds-stamp-requires c κs = search needs
 
 fault-if-requires-3 : tie.Need-fault-if-requires-3
-fault-if-requires-3 c κs = tt
+fault-if-requires-3 c κs = search needs
 
 or-else-requires : tie.Need-or-else-requires
-or-else-requires c κs = tt
+or-else-requires c κs = search needs
 
 or-else-requires-2 : tie.Need-or-else-requires-2
-or-else-requires-2 c κs = tt
+or-else-requires-2 c κs = search needs
 
 returns : tie.Need-returns
 unfolding stampChecks

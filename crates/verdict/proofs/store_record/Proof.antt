@@ -10,7 +10,7 @@ enum-known-place : tie.Need-enum-known-place
 enum-known-place c = search needs
 
 store-requires : tie.Need-store-requires
-store-requires c κs = tt
+store-requires c κs = search needs
 
 enum-told : tie.Need-enum-told
 enum-told c = search needs

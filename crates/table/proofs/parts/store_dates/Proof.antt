@@ -2,6 +2,7 @@
 use mathlib.Core.Path.{_≡_, refl, ap, _∙_}
 use mathlib.Core.List.{List}
 use Prim.Native.Nat.{_-_, _≤_}
+use borrow.Author.Needs.{needs}
 use native.Mathlib.Omega.{arith}
 use lib.ListN.{length, take}
 use lib.Seq.{take-all}
@@ -32,7 +33,7 @@ shared-slice-read-write4 : tie.Need-shared-slice-read-write4 Inv-loop μ-loop
 shared-slice-read-write4 c = omega arith
 
 write4-requires : tie.Need-write4-requires Inv-loop μ-loop
-write4-requires c κs = tt
+write4-requires c κs = search needs
 
 add-i : tie.Need-add-i Inv-loop μ-loop
 add-i c = omega arith

@@ -2,6 +2,7 @@
 use mathlib.Core.Path.{_≡_, sym, ap, _∙_}
 use mathlib.Core.List.{_∷_}
 use Prim.Native.Nat.{ℕ, suc, _+_, _*_, _-_}
+use borrow.Author.Needs.{needs}
 use borrow.Author.Tests.{not-true, not-false}
 use native.Mathlib.Omega.{arith}
 use Rattle.ground.proofs.Choices.{fails-left, decides}
@@ -22,7 +23,7 @@ returns : tie.Need-returns Inv-loop μ-loop
 returns c = Turns.dates-empty _ _ _ (c .if1 .taken)
 
 read4-requires : tie.Need-read4-requires Inv-loop μ-loop
-read4-requires c κs = tt
+read4-requires c κs = search needs
 
 sub-left : tie.Need-sub-left Inv-loop μ-loop
 sub-left c = omega arith
@@ -37,7 +38,7 @@ loop-holds c =
     )
 
 is-real-requires : tie.Need-is-real-requires Inv-loop μ-loop
-is-real-requires c κs = tt
+is-real-requires c κs = search needs
 
 returns-2 : tie.Need-returns-2 Inv-loop μ-loop
 returns-2 c =
@@ -53,10 +54,10 @@ sub-left-2 : tie.Need-sub-left-2 Inv-loop μ-loop
 sub-left-2 c = omega arith
 
 read4-requires-2 : tie.Need-read4-requires-2 Inv-loop μ-loop
-read4-requires-2 c κs = tt
+read4-requires-2 c κs = search needs
 
 before-requires : tie.Need-before-requires Inv-loop μ-loop
-before-requires c κs = tt
+before-requires c κs = search needs
 
 returns-3 : tie.Need-returns-3 Inv-loop μ-loop
 returns-3 c =
@@ -78,7 +79,7 @@ loop-again c =
     (omega arith, l .inv .1 ∙ s ∙ decides _ _ (sym (c .before .before2 .ensures) ∙ not-false _ (c .if3 .left)))
 
 is-real-requires-2 : tie.Need-is-real-requires-2 Inv-loop μ-loop
-is-real-requires-2 c κs = tt
+is-real-requires-2 c κs = search needs
 
 returns-4 : tie.Need-returns-4 Inv-loop μ-loop
 returns-4 c =
