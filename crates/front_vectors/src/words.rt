@@ -3,7 +3,7 @@ ghost use Prim.Native.Nat.{_<_, _≤_};
 ghost use lib.ListN.{length};
 
 // Where a mark comes next, or the end.
-pub fn next(s: &[u8], from: usize, mark: u8) -> usize
+pub(crate) fn next(s: &[u8], from: usize, mark: u8) -> usize
     requires { ⌜ from ≤ length (now s) ⌝ }
     ensures { λ r. ⌜ (from ≤ r) × (r ≤ length (now (s .entry))) ⌝ }
 {
@@ -18,7 +18,7 @@ pub fn next(s: &[u8], from: usize, mark: u8) -> usize
 }
 
 // The place behind the next mark, or the end.
-pub fn past(s: &[u8], from: usize, mark: u8) -> usize
+pub(crate) fn past(s: &[u8], from: usize, mark: u8) -> usize
     requires { ⌜ from < length (now s) ⌝ }
     ensures { λ r. ⌜ (from < r) × (r ≤ length (now (s .entry))) ⌝ }
 {
