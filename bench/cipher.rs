@@ -1,54 +1,50 @@
-// Times a block through the proved `rounds` and through a plain Rust DES with tables, in one run on one machine:
-// bench/cipher builds and starts it.
-mod plain_des;
+// A block and a key's round keys: plain Rust, OpenSSL's and Lentilpot's, each turn working on what the turn before gave.
+#[cfg(openssl)]
+use crate::openssl;
+use crate::timing::{heading, least, row, work, Work};
+use crate::{calls, plain_des};
 
-use std::time::Instant;
+const KEY: u64 = 0x133457799BBCDFF1;
+const BLOCK: u64 = 0x0123456789ABCDEF;
+const TURNS: u64 = 200_000;
+const FEW: u64 = 10_000;
 
-extern "C" {
-    fn lp_bench_rounds(key: u64, block: u64, count: u64) -> u64;
-    fn lp_bench_lent(key: u64, block: u64, count: u64) -> u64;
-    fn lp_bench_schedule(key: u64, count: u64) -> u64;
-}
-
-fn nanoseconds(count: u64, mut work: impl FnMut() -> u64) -> (f64, u64) {
-    let mut best = f64::MAX;
-    let mut answer = 0;
-    for _ in 0..5 {
-        let began = Instant::now();
-        answer = work();
-        best = best.min(began.elapsed().as_secs_f64() * 1e9 / count as f64);
+// A row for each work: the first is plain Rust, the second one OpenSSL's where that is there. Gives the answers.
+fn rows(turns: u64, mut works: Vec<Work>) -> Vec<u64> {
+    let times = least(7, &mut works);
+    for ((name, _), (t, _)) in works.iter().zip(&times) {
+        let openssl = if cfg!(openssl) { format!("{:.2}", t / times[1].0) } else { "no libcrypto".into() };
+        row(&[name.clone(), format!("{:.1}", t / turns as f64), format!("{:.2}", t / times[0].0), openssl]);
     }
-    (best, answer)
+    times.iter().map(|t| t.1).collect()
 }
 
-fn main() {
-    let (key, block, count) = (0x133457799BBCDFF1u64, 0x0123456789ABCDEFu64, 1_000_000u64);
-    let tables = plain_des::tables();
-    let keys = plain_des::schedule(key);
-    let (plain, a) = nanoseconds(count, || {
-        let mut x = block;
-        for _ in 0..count {
-            x = plain_des::rounds(&tables, &keys, x);
-        }
-        x
-    });
-    let (ours, b) = nanoseconds(count, || unsafe { lp_bench_rounds(key, block, count) });
-    let (lent, c) = nanoseconds(count, || unsafe { lp_bench_lent(key, block, count) });
-    assert!(a == b && a == c, "the answers differ: {a:016X} {b:016X} {c:016X}");
-    let few = count / 100;
-    let (plain_keys, d) = nanoseconds(few, || {
-        let mut k = key;
-        for _ in 0..few {
-            k = plain_des::schedule(k)[15];
-        }
-        k
-    });
-    let (our_keys, e) = nanoseconds(few, || unsafe { lp_bench_schedule(key, few) });
-    assert!(d == e, "the round keys differ: {d:012X} {e:012X}");
-    println!("                              ns     ratio to plain Rust");
-    println!("plain Rust, a block       {plain:7.1}");
-    println!("rounds, a block           {ours:7.1}  {:6.2}", ours / plain);
-    println!("rounds_by, a block        {lent:7.1}  {:6.2}", lent / plain);
-    println!("plain Rust, round keys    {plain_keys:7.1}");
-    println!("schedule, round keys      {our_keys:7.1}  {:6.2}", our_keys / plain_keys);
+fn blocks() {
+    let (tables, keys) = (plain_des::tables(), plain_des::schedule(KEY));
+    let works = vec![
+        work("a block, plain Rust with tables", || (0..TURNS).fold(BLOCK, |x, _| plain_des::rounds(&tables, &keys, x))),
+        #[cfg(openssl)]
+        work("a block, OpenSSL's `DES_ecb_encrypt`", || openssl::rounds(KEY, BLOCK, TURNS)),
+        work("a block, Lentilpot's `rounds`", || calls::rounds(KEY, BLOCK, TURNS)),
+        work("a block, Lentilpot's `rounds_by`, boxes lent", || calls::rounds_by(KEY, BLOCK, TURNS)),
+    ];
+    let answers = rows(TURNS, works);
+    assert!(answers.iter().all(|a| *a == answers[0]), "the blocks differ: {answers:X?}");
+}
+
+fn round_keys() {
+    let works = vec![
+        work("round keys, plain Rust", || (0..FEW).fold(KEY, |k, _| plain_des::schedule(k)[15])),
+        #[cfg(openssl)]
+        work("round keys, OpenSSL's `DES_set_key_unchecked`", || openssl::schedules(KEY, FEW)),
+        work("round keys, Lentilpot's `schedule`", || calls::schedules(KEY, FEW)),
+    ];
+    let answers = rows(FEW, works);
+    assert_eq!(answers[0], answers[answers.len() - 1], "the round keys differ");
+}
+
+pub fn tables() {
+    heading("Cipher", &["", "ns", "to plain Rust", "to OpenSSL"]);
+    blocks();
+    round_keys();
 }

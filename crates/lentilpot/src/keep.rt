@@ -1,9 +1,10 @@
 // The commands that keep a table: setup, add, key, order.
-use crate::asked;
-use crate::files;
-use crate::files::Saved;
-use crate::lock;
-use crate::say;
+use folder::files;
+use folder::files::Saved;
+use folder::holidays;
+use folder::lock;
+use terminal::asked;
+use terminal::say;
 
 // Saves the table that a served call left, and answers.
 fn answer(table: &[u8], t: &[u8], refusal: u32) {
@@ -28,71 +29,6 @@ fn answer(table: &[u8], t: &[u8], refusal: u32) {
 }
 
 // ---- setup
-
-fn bad_line(path: &[u8], line: u32) {
-    say::of_file(path, b"", b"line ");
-    io::print_decimal(libc::STDERR_FILENO, line as u64);
-    say::err(b" isn't a date: expected one yymmdd a line\n");
-}
-
-fn no_dates() -> words::Dates {
-    words::Dates {
-        good: false,
-        line: 0,
-        count: 0,
-        dates: [0; 201],
-    }
-}
-
-// The dates of a file of holidays; none where the word is left out.
-fn holidays_of(i: usize) -> words::Dates {
-    if os::arg_count() <= i {
-        return words::holidays(b"");
-    }
-    let mut path = io::buffer();
-    let n = os::arg(i, &mut path);
-    if !asked::is_file(b"HOLIDAYS", &path[..n]) {
-        return no_dates();
-    }
-    read_holidays(&path[..n])
-}
-
-fn read_holidays(path: &[u8]) -> words::Dates {
-    let fd = os::open_read(path);
-    if fd < 0 {
-        say::trouble(
-            b"can't open the holidays, expected a file with one yymmdd a line",
-            path,
-        );
-        return no_dates();
-    }
-    let mut lines = io::buffer();
-    let n = io::read_full(fd, &mut lines);
-    let mut over = [0u8; 1];
-    let more = libc::read(fd, &mut over);
-    if more < 0 {
-        say::trouble(
-            b"can't read the holidays, expected a file with one yymmdd a line",
-            path,
-        );
-        libc::close(fd);
-        return no_dates();
-    }
-    libc::close(fd);
-    if 0 < more {
-        say::of_file(
-            path,
-            b"",
-            b"too long for holidays: expected at most 200 lines of one yymmdd each\n",
-        );
-        return no_dates();
-    }
-    let d = words::holidays(&lines[..n]);
-    if !d.good {
-        bad_line(path, d.line);
-    }
-    d
-}
 
 pub fn setup() {
     if !asked::are_as_many(
@@ -127,7 +63,7 @@ fn setup_words(table: &[u8]) {
     let words::Block::Of(seed) = asked::key(8, b"V") else {
         return;
     };
-    let d = holidays_of(9);
+    let d = holidays::asked(9);
     if !d.good {
         return;
     }

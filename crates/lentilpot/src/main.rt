@@ -1,11 +1,8 @@
-// The program: a bank's table of customers in a file, and the files that customers send. Thin over `front`; this crate reads words and files.
-mod asked;
-mod files;
+// The program: a bank's table of customers in a file, and the files that customers send. Thin over `front`; `showing` has the command show, `terminal` the words, `folder` the files.
 mod keep;
-mod lock;
 mod receive;
-mod say;
-mod show;
+use terminal::asked;
+use terminal::say;
 
 // The number of the command that a word names, 0 for none.
 fn command_of(word: &[u8]) -> u32 {
@@ -40,7 +37,7 @@ fn run(command: u32) {
         3 => keep::key(),
         4 => keep::order(),
         5 => receive::receive(),
-        6 => show::show(),
+        6 => showing::show(),
         _ => say::help(),
     }
 }

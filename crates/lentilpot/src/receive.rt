@@ -1,12 +1,12 @@
 // The command receive. The order of writes: the replies beside their name, flushed; the table; the replies' name; then the listing. The input is
 // read in parts and the replies are written as they come, so memory does not grow with the file.
 ghost use Prim.Native.Nat.{_≤_};
-use crate::asked;
-use crate::files;
-use crate::files::Saved;
-use crate::lock;
-use crate::say;
+use folder::files;
+use folder::lock;
+use folder::replies;
 use libc::STDERR_FILENO;
+use terminal::asked;
+use terminal::say;
 
 // How a run ended: the refusal of the opening, or a descriptor of the replies to list, or -1 for neither.
 struct Done {
@@ -104,33 +104,15 @@ fn receive_into(table: &[u8], o: answers::Opening, size: usize) {
         return;
     }
     if 0 <= done.replies {
-        list(done.replies, &replies[..m]);
+        replies::list(done.replies, &replies[..m]);
         libc::close(done.replies);
     }
 }
 
 // ---- files
 
-// Whether the replies' name can be given later. The lock of this run shows where the name is the table's own, however it is written.
-fn is_free(replies: &[u8]) -> bool {
-    if files::is_there(replies, b".lock") {
-        say::expected(b"REPLIES", b"another file than TABLE, and no table in use");
-        return false;
-    }
-    let fd = os::open_append(replies);
-    if 0 <= fd {
-        libc::close(fd);
-        return true;
-    }
-    if os::errno() == libc::ENOENT {
-        return true;
-    }
-    say::trouble(b"can't write the replies", replies);
-    false
-}
-
 fn under_lock(table: &[u8], file: &[u8], replies: &[u8], o: answers::Opening, size: usize) -> Done {
-    if !is_free(replies) {
+    if !replies::is_free(replies) {
         return no_replies();
     }
     let input = os::open_read(file);
@@ -187,44 +169,23 @@ fn write_replies(
 ) -> i32 {
     if !lock::name_replies(table, replies) {
         say::trouble_beside(b"can't write the lock", table, b".lock");
-        undo(table, kept);
+        replies::undo(table, kept);
         return -1;
     }
     let out = files::make(replies, b".new");
     if out < 0 {
-        tell_unmade(replies);
-        undo(table, kept);
+        replies::tell_unmade(replies);
+        replies::undo(table, kept);
         return -1;
     }
     let is_written = is_filled(input, file, out, replies, t, s, size);
     libc::close(out);
     if !is_written {
         files::remove(replies, b".new");
-        undo(table, kept);
+        replies::undo(table, kept);
         return -1;
     }
-    finish(table, kept, replies, t)
-}
-
-fn tell_unmade(replies: &[u8]) {
-    if os::errno() != libc::EEXIST {
-        say::trouble_beside(b"can't make the replies", replies, b".new");
-        return;
-    }
-    say::of_file(
-        replies,
-        b".new",
-        b"holds the replies of a run that saved its table and was cut off. To keep them: mv",
-    );
-    say::quoted(replies, b".new");
-    say::quoted(replies, b"");
-    say::end_line();
-}
-
-// Nothing was changed: the replies' name leaves the lock before TABLE.new goes.
-fn undo(table: &[u8], kept: i32) {
-    lock::unname_replies(table);
-    files::give_up(table, kept);
+    replies::finish(table, kept, replies, t)
 }
 
 // Every reply written and flushed.
@@ -256,67 +217,6 @@ fn is_filled(
         return false;
     }
     true
-}
-
-// Saves the table, then gives the replies their name; a descriptor of the replies to list, or -1.
-fn finish(table: &[u8], kept: i32, replies: &[u8], t: &[u8]) -> i32 {
-    let listed = files::open_beside(replies, b".new");
-    if listed < 0 {
-        say::trouble_beside(
-            b"nothing was changed: can't read the replies",
-            replies,
-            b".new",
-        );
-        files::remove(replies, b".new");
-        undo(table, kept);
-        return -1;
-    }
-    let saved = files::save(table, kept, t);
-    match saved {
-        Saved::Not => {
-            libc::close(listed);
-            files::remove(replies, b".new");
-            lock::unname_replies(table);
-            files::remove(table, b".new");
-            -1
-        }
-        Saved::Unflushed => {
-            tell_kept(replies);
-            libc::close(listed);
-            -1
-        }
-        Saved::Whole => named(replies, listed),
-    }
-}
-
-fn tell_kept(replies: &[u8]) {
-    say::of_file(
-        replies,
-        b".new",
-        b"holds the replies; send none before 'sync' has flushed the table's folder, then: mv",
-    );
-    say::quoted(replies, b".new");
-    say::quoted(replies, b"");
-    say::end_line();
-}
-
-fn named(replies: &[u8], listed: i32) -> i32 {
-    if !files::take_name(replies, b".new") {
-        say::trouble_beside(
-            b"the table was saved, and the replies stand in the file that ends in .new, which can't be renamed",
-            replies,
-            b".new",
-        );
-        libc::close(listed);
-        return -1;
-    }
-    if !files::flush_folder(replies) {
-        say::trouble(
-            b"the table was saved; after a power failure the replies may be in the file that ends in .new: can't flush the folder",
-            replies,
-        );
-    }
-    listed
 }
 
 // ---- the file, part by part
@@ -463,7 +363,7 @@ fn step(out: i32, replies: &[u8], t: &mut [u8], s: session::Session, input: &[u8
         say::of_file(replies, b"", b"nothing was changed: a read was refused\n");
         return stopped(session);
     }
-    if !is_put(out, replies, &room, a.length) {
+    if !replies::is_put(out, replies, &room, a.length) {
         return stopped(session);
     }
     Fed {
@@ -475,28 +375,6 @@ fn step(out: i32, replies: &[u8], t: &mut [u8], s: session::Session, input: &[u8
         taken: a.taken,
         session,
     }
-}
-
-// A reply, if there is one, and its LF.
-fn is_put(out: i32, replies: &[u8], room: &[u8], length: usize) -> bool {
-    if length == 0 {
-        return true;
-    }
-    if room.len() < length {
-        return false;
-    }
-    let is_written = io::write_all(out, &room[..length]);
-    if is_written {
-        if io::write_all(out, b"\n") {
-            return true;
-        }
-    }
-    say::trouble_beside(
-        b"nothing was changed: can't write the replies",
-        replies,
-        b".new",
-    );
-    false
 }
 
 // The end's replies: one or two, and none where none is due.
@@ -526,7 +404,7 @@ fn end_step(out: i32, replies: &[u8], t: &mut [u8], s: session::Session) -> Fed 
         say::of_file(replies, b"", b"nothing was changed: the end was refused\n");
         return stopped(session);
     }
-    if !is_put(out, replies, &room, a.length) {
+    if !replies::is_put(out, replies, &room, a.length) {
         return stopped(session);
     }
     Fed {
@@ -538,53 +416,4 @@ fn end_step(out: i32, replies: &[u8], t: &mut [u8], s: session::Session) -> Fed 
         taken: 0,
         session,
     }
-}
-
-// ---- the listing
-
-// Reads the replies back, as they were saved, and lists them.
-fn list(fd: i32, replies: &[u8]) {
-    let mut turns = u64::MAX;
-    while turns > 0 && is_listed(fd, replies) {
-        turns -= 1;
-    }
-}
-
-// The next reply: K or E and the code; whether there was one.
-fn is_listed(fd: i32, replies: &[u8]) -> bool {
-    let mut head = [0u8; 16];
-    let n = io::read_full(fd, &mut head);
-    if n != 16 {
-        return false;
-    }
-    let line = [
-        head[11],
-        b' ',
-        head[12],
-        head[13],
-        head[14],
-        head[15],
-        b'\n',
-    ];
-    if !say::out(&line) {
-        say::of_file(
-            replies,
-            b"",
-            b"the table was saved and the replies are in this file: can't list them on standard output\n",
-        );
-        return false;
-    }
-    skip(fd, head[2]);
-    true
-}
-
-// The rest of an ESI of 237 or of a PTE of 317 characters, and its LF.
-fn skip(fd: i32, kind: u8) {
-    if kind == b'E' {
-        let mut rest = [0u8; 222];
-        io::read_full(fd, &mut rest);
-        return;
-    }
-    let mut rest = [0u8; 302];
-    io::read_full(fd, &mut rest);
 }

@@ -1,0 +1,243 @@
+// The table's file: read whole, and replaced whole by a file that was written beside it and flushed. That file, TABLE.new, is there from before
+// anything else is written until it takes the table's name: whoever finds it knows that the table was not changed.
+ghost use Prim.Native.Nat.{_≤_};
+ghost use lib.ListN.{length};
+ghost use Rattle.io.specs.Counts.{Counts};
+use terminal::say;
+
+// How saving a table ended.
+pub enum Saved {
+    Not,
+    Unflushed,
+    Whole,
+}
+
+// A name with an ending, at the start of the room; nothing where it does not fit, which names no file.
+pub fn beside(room: &mut [u8], name: &[u8], ending: &[u8]) -> usize
+    ensures { λ r. ⌜ Counts r (now (room .exit)) ⌝ }
+{
+    let n = name.len();
+    let k = ending.len();
+    if room.len() < k {
+        return 0;
+    }
+    if room.len() - k < n {
+        return 0;
+    }
+    text::copy(room, name);
+    text::copy(&mut room[n..], ending);
+    n + k
+}
+
+// Makes the file beside a name, only if it is missing.
+pub fn make(name: &[u8], ending: &[u8]) -> i32 {
+    let mut path = io::buffer();
+    let n = beside(&mut path, name, ending);
+    os::create(&path[..n])
+}
+
+pub fn open_beside(name: &[u8], ending: &[u8]) -> i32 {
+    let mut path = io::buffer();
+    let n = beside(&mut path, name, ending);
+    os::open_read(&path[..n])
+}
+
+pub fn remove(name: &[u8], ending: &[u8]) -> bool {
+    let mut path = io::buffer();
+    let n = beside(&mut path, name, ending);
+    os::unlink(&path[..n]) == 0
+}
+
+pub fn is_there(name: &[u8], ending: &[u8]) -> bool {
+    let fd = open_beside(name, ending);
+    if fd < 0 {
+        return false;
+    }
+    libc::close(fd);
+    true
+}
+
+// The file beside a name takes that name.
+pub fn take_name(name: &[u8], ending: &[u8]) -> bool {
+    let mut path = io::buffer();
+    let n = beside(&mut path, name, ending);
+    os::rename(&path[..n], name) == 0
+}
+
+// How many first bytes of a name are its folder's; none where the name has no folder.
+fn folder_length(name: &[u8]) -> usize
+    ensures { λ r. ⌜ r ≤ length (now (name .entry)) ⌝ }
+{
+    let mut i = name.len();
+    while 0 < i {
+        i -= 1;
+        if name[i] == b'/' {
+            if i == 0 {
+                return 1;
+            }
+            return i;
+        }
+    }
+    0
+}
+
+fn open_folder(name: &[u8]) -> i32 {
+    let n = folder_length(name);
+    if n == 0 {
+        return os::open_read(b".");
+    }
+    os::open_read(&name[..n])
+}
+
+// What was made or renamed in the folder of a name reaches the disk.
+pub fn flush_folder(name: &[u8]) -> bool {
+    let fd = open_folder(name);
+    if fd < 0 {
+        return false;
+    }
+    let status = libc::fsync(fd);
+    libc::close(fd);
+    status == 0
+}
+
+pub fn wrong_size(table: &[u8]) {
+    say::of_file(
+        table,
+        b"",
+        b"not the size of a table: expected a file of 49152 bytes, made by 'setup'\n",
+    );
+}
+
+// Reads the table; whether it could be read and has a table's size.
+pub fn load(table: &[u8], t: &mut [u8]) -> bool {
+    let fd = os::open_read(table);
+    if fd < 0 {
+        say::trouble(
+            b"can't open the table, expected a file of 49152 bytes, made by 'setup'",
+            table,
+        );
+        return false;
+    }
+    let n = io::read_full(fd, t);
+    let mut over = [0u8; 1];
+    let more = libc::read(fd, &mut over);
+    if more < 0 {
+        say::trouble(
+            b"can't read the table, expected a file of 49152 bytes, made by 'setup'",
+            table,
+        );
+        libc::close(fd);
+        return false;
+    }
+    libc::close(fd);
+    if 0 < more {
+        wrong_size(table);
+        return false;
+    }
+    if n != 49152 {
+        wrong_size(table);
+        return false;
+    }
+    true
+}
+
+// Whether a table may be set up there: no file, or an empty one. A table that is there would lose its used stamps.
+pub fn is_free(table: &[u8]) -> bool {
+    let fd = os::open_read(table);
+    if fd < 0 {
+        if os::errno() == libc::ENOENT {
+            return true;
+        }
+        say::trouble(b"can't set up a table there", table);
+        return false;
+    }
+    let mut one = [0u8; 1];
+    let got = libc::read(fd, &mut one);
+    if got < 0 {
+        say::trouble(b"can't set up a table there", table);
+        libc::close(fd);
+        return false;
+    }
+    libc::close(fd);
+    if 0 < got {
+        say::of_file(
+            table,
+            b"",
+            b"there is a file already: expected the name of a new table (an old one would lose its used stamps)\n",
+        );
+        return false;
+    }
+    true
+}
+
+// Makes TABLE.new, for its owner alone since it is to hold keys.
+pub fn begin(table: &[u8]) -> i32 {
+    let fd = make(table, b".new");
+    if fd < 0 {
+        if os::errno() == libc::EEXIST {
+            say::of_file(
+                table,
+                b".new",
+                b"left by a run that was cut off before it changed the table: remove the replies' file of that run that ends in .new, then this file, and run again\n",
+            );
+            return -1;
+        }
+        say::trouble_beside(b"can't make the new table", table, b".new");
+        return -1;
+    }
+    if libc::fchmod(fd, 0o600) != 0 {
+        say::trouble_beside(
+            b"can't keep the new table for its owner alone",
+            table,
+            b".new",
+        );
+        give_up(table, fd);
+        return -1;
+    }
+    if !flush_folder(table) {
+        say::trouble(b"can't flush the folder of the table", table);
+        give_up(table, fd);
+        return -1;
+    }
+    fd
+}
+
+// Leaves the table as it was.
+pub fn give_up(table: &[u8], fd: i32) {
+    libc::close(fd);
+    remove(table, b".new");
+}
+
+fn write_whole(fd: i32, t: &[u8]) -> bool {
+    if !io::write_all(fd, t) {
+        return false;
+    }
+    libc::fsync(fd) == 0
+}
+
+// Writes TABLE.new, flushes it, gives it the table's name and flushes the folder. Where the table was not saved, TABLE.new is the caller's to
+// remove, after all else that it has to undo.
+pub fn save(table: &[u8], fd: i32, t: &[u8]) -> Saved {
+    if !write_whole(fd, t) {
+        say::trouble_beside(
+            b"nothing was changed: can't write the new table",
+            table,
+            b".new",
+        );
+        libc::close(fd);
+        return Saved::Not;
+    }
+    libc::close(fd);
+    if !take_name(table, b".new") {
+        say::trouble(b"nothing was changed: can't replace the table", table);
+        return Saved::Not;
+    }
+    if !flush_folder(table) {
+        say::trouble(
+            b"the table was changed, and a power failure may still undo it: can't flush its folder",
+            table,
+        );
+        return Saved::Unflushed;
+    }
+    Saved::Whole
+}

@@ -1,0 +1,184 @@
+// One run on a table at a time: TABLE.lock is made only if it is missing and holds the number of the process, and for `receive` the name of the
+// replies once TABLE.new is there. A lock that a dead process left is never taken over, since two runs could both do so: its mend is told.
+ghost use Prim.Native.Nat.{_≤_};
+ghost use lib.ListN.{length};
+use crate::files;
+use terminal::say;
+
+// No process has a number below 1.
+fn unsigned(n: i32) -> u64 {
+    if n > 0 { n as u64 } else { 0 }
+}
+
+// The number of this process, alone in the lock.
+fn sign(fd: i32) -> bool {
+    if !io::print_decimal(fd, unsigned(libc::getpid())) {
+        return false;
+    }
+    io::write_all(fd, b"\n")
+}
+
+// Takes the table, or says who has it.
+pub fn take(table: &[u8]) -> bool {
+    let fd = files::make(table, b".lock");
+    if fd < 0 {
+        if os::errno() == libc::EEXIST {
+            tell(table);
+            return false;
+        }
+        say::trouble_beside(
+            b"can't lock the table, expected a folder that can be written",
+            table,
+            b".lock",
+        );
+        return false;
+    }
+    let is_signed = sign(fd);
+    libc::close(fd);
+    if !is_signed {
+        say::trouble_beside(b"can't write the lock", table, b".lock");
+        release(table);
+        return false;
+    }
+    true
+}
+
+pub fn release(table: &[u8]) {
+    if !files::remove(table, b".lock") {
+        say::trouble_beside(b"can't remove the lock", table, b".lock");
+    }
+}
+
+// Names the replies in the lock: from here on a missing TABLE.new says that the table was saved.
+pub fn name_replies(table: &[u8], replies: &[u8]) -> bool {
+    let mut path = io::buffer();
+    let n = files::beside(&mut path, table, b".lock");
+    let fd = os::open_append(&path[..n]);
+    if fd < 0 {
+        return false;
+    }
+    let is_named = put_line(fd, replies);
+    libc::close(fd);
+    is_named
+}
+
+fn put_line(fd: i32, replies: &[u8]) -> bool {
+    if !io::write_all(fd, replies) {
+        return false;
+    }
+    if !io::write_all(fd, b"\n") {
+        return false;
+    }
+    libc::fsync(fd) == 0
+}
+
+// Takes the replies' name out again, before TABLE.new goes.
+pub fn unname_replies(table: &[u8]) {
+    let mut path = io::buffer();
+    let n = files::beside(&mut path, table, b".lock");
+    let fd = os::open_overwrite(&path[..n]);
+    if fd < 0 {
+        return;
+    }
+    sign(fd);
+    libc::close(fd);
+}
+
+// ---- a lock that is there
+
+// Where the line that starts at `from` ends.
+fn line_end(s: &[u8], from: usize) -> usize
+    requires { ⌜ from ≤ length (now s) ⌝ }
+    ensures { λ r. ⌜ (from ≤ r) × (r ≤ length (now (s .entry))) ⌝ }
+{
+    let mut i = from;
+    while i < s.len() {
+        if s[i] == b'\n' {
+            return i;
+        }
+        i += 1;
+    }
+    i
+}
+
+fn tell(table: &[u8]) {
+    let fd = files::open_beside(table, b".lock");
+    if fd < 0 {
+        say::of_file(
+            table,
+            b"",
+            b"the table is in use, and nothing was changed; try again\n",
+        );
+        return;
+    }
+    let mut lock = io::large_buffer();
+    let n = io::read_full(fd, &mut lock);
+    libc::close(fd);
+    tell_owner(table, &lock[..n]);
+}
+
+// What the lock says: its owner's number, and perhaps the name of the replies.
+fn tell_owner(table: &[u8], lock: &[u8]) {
+    let k = line_end(lock, 0);
+    let owner = words::digits(&lock[..k], 1, 9);
+    let words::Number::Is(pid) = owner else {
+        say::of_file(
+            table,
+            b"",
+            b"the table is in use by a run that has just begun or just ended, and nothing was changed; if no lentilpot runs on it, remove",
+        );
+        say::quoted(table, b".lock");
+        say::end_line();
+        return;
+    };
+    if is_living(pid) {
+        say::of_file(table, b"", b"the table is in use by process ");
+        io::print_decimal(libc::STDERR_FILENO, pid as u64);
+        say::err(b", and nothing was changed; try again when it has ended\n");
+        return;
+    }
+    if k < lock.len() {
+        let from = k + 1;
+        let end = line_end(lock, from);
+        tell_dead(table, pid, &lock[from..end]);
+        return;
+    }
+    tell_dead(table, pid, b"");
+}
+
+fn is_living(pid: u32) -> bool {
+    if 2147483647 < pid {
+        return false;
+    }
+    if libc::getpgid(pid as i32) < 0 {
+        return os::errno() == libc::EPERM;
+    }
+    true
+}
+
+// A run was cut off: what is the case, and what to type.
+fn tell_dead(table: &[u8], pid: u32, replies: &[u8]) {
+    say::of_file(table, b".lock", b"left by process ");
+    io::print_decimal(libc::STDERR_FILENO, pid as u64);
+    say::err(b", which runs no more and ");
+    if files::is_there(table, b".new") {
+        say::err(b"did not change the table. To mend: rm -f");
+        if 0 < replies.len() {
+            say::quoted(replies, b".new");
+        }
+        say::quoted(table, b".new");
+    } else if replies.len() == 0 {
+        say::err(b"may have changed the table: 'show' tells. To mend: rm");
+    } else if files::is_there(replies, b".new") {
+        say::err(b"saved the table; its replies stand. To mend: mv");
+        say::quoted(replies, b".new");
+        say::quoted(replies, b"");
+        say::err(b" && rm");
+    } else {
+        say::err(b"saved the table; its replies are in");
+        say::quoted(replies, b"");
+        say::err(b". To mend: rm");
+    }
+    say::quoted(table, b".lock");
+    say::end_line();
+}
