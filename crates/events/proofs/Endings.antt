@@ -10,7 +10,7 @@ use Rattle.session.specs.declared.Gathered.{Gathered}
 use Rattle.session.specs.declared.Place.the-variants.{Outside}
 use Rattle.session.specs.declared.Session.{Session}
 use Rattle.session.specs.declared.Stepped.{Stepped}
-use Rattle.events.proofs.Turns.{Gives, taken, left, quietly, barely}
+use Rattle.collected.proofs.Turns.{Gives, taken, left, quietly, barely}
 
 module _ (s : Session) (w : List ℕ) {r : Stepped} {after : Session} {suo : Bool} where
   pub outside-suo : suo ≡ begins ">>SUO" (held (s .gathered)) → suo ≡ true → ((v : List ℕ) → r ≡ silent after v .out) → after ≡ suoStart s w → Gives r w (outsideEnds s w)

@@ -1,4 +1,2 @@
 -- Laws that belong to no one function.
-pub mod Turns
-pub mod Done
 pub mod Endings

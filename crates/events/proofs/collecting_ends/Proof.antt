@@ -1,7 +1,7 @@
 -- By cases on the kind.
 use denote.Ref.{now}
 use Rattle.message.specs.declared.Kind.{Kind}
-use Rattle.events.proofs.Turns.{by-case, quietly}
+use Rattle.collected.proofs.Turns.{by-case, quietly}
 use Rattle.session.specs.Events.{collectingEnds}
 use borrow.Author.Needs.{needs}
 use Rattle.events.proofs.collecting_ends.Statement.{statement}

@@ -1,7 +1,7 @@
 -- By cases on the kind.
 use denote.Ref.{now}
 use Rattle.message.specs.declared.Kind.{Kind}
-use Rattle.events.proofs.Turns.{by-case, barely}
+use Rattle.collected.proofs.Turns.{by-case, barely}
 use Rattle.session.specs.Events.{cutShort}
 use borrow.Author.Needs.{needs}
 use Rattle.events.proofs.cut_short.Statement.{statement}

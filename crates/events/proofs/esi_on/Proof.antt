@@ -1,5 +1,5 @@
 -- It goes on until its length is reached.
-use Rattle.events.proofs.Turns.{Gives, taken, left, quietly}
+use Rattle.collected.proofs.Turns.{Gives, taken, left, quietly}
 use Rattle.session.specs.Events.{esiOn}
 use borrow.Author.Needs.{needs}
 use Rattle.events.proofs.esi_on.Statement.{statement}

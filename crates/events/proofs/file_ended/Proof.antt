@@ -2,7 +2,7 @@
 use mathlib.Core.Path.{refl}
 use denote.Ref.{now}
 use Rattle.session.specs.declared.Place.{Place}
-use Rattle.events.proofs.Turns.{by-case, quietly, barely}
+use Rattle.collected.proofs.Turns.{by-case, quietly, barely}
 use Rattle.session.specs.Events.{fileEnded, finishedIn}
 use borrow.Author.Needs.{needs}
 use Rattle.events.proofs.file_ended.Statement.{statement}

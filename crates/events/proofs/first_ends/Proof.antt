@@ -1,5 +1,5 @@
 -- The first record begins an ESI or closes the file.
-use Rattle.events.proofs.Turns.{Gives, taken, left, barely}
+use Rattle.collected.proofs.Turns.{Gives, taken, left, barely}
 use Rattle.session.specs.Events.{firstEnds}
 use borrow.Author.Needs.{needs}
 use Rattle.events.proofs.first_ends.Statement.{statement}

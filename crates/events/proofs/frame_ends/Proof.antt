@@ -1,5 +1,5 @@
 -- Each answer by the tests that led to it.
-use Rattle.events.proofs.Turns.{Gives, taken}
+use Rattle.collected.proofs.Turns.{Gives, taken}
 use Rattle.events.proofs.Endings.{frame-suo, frame-esi, frame-data}
 use Rattle.session.specs.Events.{frameEnds}
 use borrow.Author.Needs.{needs}

@@ -3,7 +3,7 @@ use mathlib.Core.Path.{refl, ap, _∙_}
 use mathlib.Core.Bool.{Bool}
 use denote.Ref.{now}
 use Rattle.session.specs.declared.Place.{Place}
-use Rattle.events.proofs.Turns.{by-case, quietly, barely, turned}
+use Rattle.collected.proofs.Turns.{by-case, quietly, barely, turned}
 use Rattle.session.specs.Events.{passed, passedIn, bareTurn}
 use borrow.Author.Needs.{needs}
 use Rattle.events.proofs.size_passed.Statement.{statement}

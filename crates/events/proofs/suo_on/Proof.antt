@@ -1,6 +1,6 @@
 -- It goes on until its length is reached.
 use mathlib.Core.Path.{_≡_}
-use Rattle.events.proofs.Turns.{taken, left}
+use Rattle.collected.proofs.Turns.{taken, left}
 use Rattle.session.specs.Events.{suoOn}
 use Rattle.events.proofs.suo_on.Statement.{statement}
 use Rattle.events.proofs.suo_on.Tie as tie

@@ -3,7 +3,7 @@ use Prim.Native.Nat.{ℕ}
 use denote.Ref.{now}
 use Rattle.message.specs.declared.Kind.the-variants.{Suo}
 use mathlib.Core.Path.{_≡_}
-use Rattle.events.proofs.Turns.{goes-on, alone}
+use Rattle.collected.proofs.Turns.{goes-on, alone}
 use Rattle.session.specs.Events.{aloneBy, collectedBy, suoDone, suoStart}
 use Rattle.events.proofs.suo_start.Statement.{statement}
 use Rattle.events.proofs.suo_start.Tie as tie

@@ -2,7 +2,7 @@
 use Prim.Native.Nat.{ℕ}
 use denote.Ref.{now}
 use Rattle.message.specs.declared.Kind.the-variants.{Var}
-use Rattle.events.proofs.Turns.{Gives, goes-on, alone}
+use Rattle.collected.proofs.Turns.{Gives, goes-on, alone}
 use Rattle.session.specs.Events.{aloneBy, collectedBy, varDone, varStart}
 use borrow.Author.Needs.{needs}
 use Rattle.events.proofs.var_start.Statement.{statement}

@@ -33,7 +33,7 @@ use Rattle.session.specs.declared.Place.{Place}
 use Rattle.session.specs.declared.Place.the-variants.{Outside, InData}
 use Rattle.session.specs.declared.Session.{Session}
 use Rattle.session.specs.declared.Stepped.{Stepped}
-use Rattle.events.proofs.Turns.{Gives}
+use Rattle.collected.proofs.Turns.{Gives}
 
 -- the step that hands over that answer and that session
 abbrev pub answering : Answering → Session → Stepped

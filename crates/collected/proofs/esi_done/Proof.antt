@@ -1,8 +1,8 @@
 -- The turn is made of what the calls give.
-use Rattle.events.proofs.Done.{esi-made}
+use Rattle.collected.proofs.Done.{esi-made}
 use borrow.Author.Needs.{needs}
-use Rattle.events.proofs.esi_done.Statement.{statement}
-use Rattle.events.proofs.esi_done.Tie as tie
+use Rattle.collected.proofs.esi_done.Statement.{statement}
+use Rattle.collected.proofs.esi_done.Tie as tie
 
 collected-by-requires : tie.Need-collected-by-requires
 collected-by-requires c κs = tt

@@ -1,8 +1,8 @@
 -- The key is the one of the generation that the SUO names, of the customer at that place.
 use Rattle.whole.specs.Messages.{transportHeld}
 use borrow.Author.Needs.{needs}
-use Rattle.events.proofs.transport_held.Statement.{statement}
-use Rattle.events.proofs.transport_held.Tie as tie
+use Rattle.collected.proofs.transport_held.Statement.{statement}
+use Rattle.collected.proofs.transport_held.Tie as tie
 
 enum-known-place : tie.Need-enum-known-place
 enum-known-place c = search needs

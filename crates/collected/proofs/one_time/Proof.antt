@@ -1,8 +1,8 @@
 -- Without a transport key there is none.
 use Rattle.whole.specs.Messages.{oneTime}
 use borrow.Author.Needs.{needs}
-use Rattle.events.proofs.one_time.Statement.{statement}
-use Rattle.events.proofs.one_time.Tie as tie
+use Rattle.collected.proofs.one_time.Statement.{statement}
+use Rattle.collected.proofs.one_time.Tie as tie
 
 enum-told : tie.Need-enum-told
 enum-told c = search needs

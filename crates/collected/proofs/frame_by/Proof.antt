@@ -1,7 +1,7 @@
 -- The digest is finished under the one-time key.
-use Rattle.events.proofs.Done.{frame-made}
-use Rattle.events.proofs.frame_by.Statement.{statement}
-use Rattle.events.proofs.frame_by.Tie as tie
+use Rattle.collected.proofs.Done.{frame-made}
+use Rattle.collected.proofs.frame_by.Statement.{statement}
+use Rattle.collected.proofs.frame_by.Tie as tie
 
 box-table-requires : tie.Need-box-table-requires
 box-table-requires c κs = tt

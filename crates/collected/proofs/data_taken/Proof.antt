@@ -1,7 +1,7 @@
 -- The digest has one record more.
-use Rattle.events.proofs.Done.{data-made}
-use Rattle.events.proofs.data_taken.Statement.{statement}
-use Rattle.events.proofs.data_taken.Tie as tie
+use Rattle.collected.proofs.Done.{data-made}
+use Rattle.collected.proofs.data_taken.Statement.{statement}
+use Rattle.collected.proofs.data_taken.Tie as tie
 
 method-requires : tie.Need-method-requires
 method-requires c κs = tt

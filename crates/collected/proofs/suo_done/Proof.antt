@@ -1,7 +1,7 @@
 -- The frame opened is made of what the calls give.
-use Rattle.events.proofs.Done.{suo-made}
-use Rattle.events.proofs.suo_done.Statement.{statement}
-use Rattle.events.proofs.suo_done.Tie as tie
+use Rattle.collected.proofs.Done.{suo-made}
+use Rattle.collected.proofs.suo_done.Statement.{statement}
+use Rattle.collected.proofs.suo_done.Tie as tie
 
 collected-by-requires : tie.Need-collected-by-requires
 collected-by-requires c κs = tt

@@ -1,7 +1,7 @@
 -- No reply stands where none is given.
 use Rattle.session.specs.Events.{silent}
-use Rattle.events.proofs.quiet.Statement.{statement}
-use Rattle.events.proofs.quiet.Tie as tie
+use Rattle.collected.proofs.quiet.Statement.{statement}
+use Rattle.collected.proofs.quiet.Tie as tie
 
 no-reply-requires : tie.Need-no-reply-requires
 no-reply-requires c κs = tt

@@ -1,7 +1,7 @@
 -- The answer is the bare one.
 use Rattle.session.specs.Events.{bareTurn, replies}
-use Rattle.events.proofs.bare.Statement.{statement}
-use Rattle.events.proofs.bare.Tie as tie
+use Rattle.collected.proofs.bare.Statement.{statement}
+use Rattle.collected.proofs.bare.Tie as tie
 
 bare-answer-requires : tie.Need-bare-answer-requires
 bare-answer-requires c κs = tt

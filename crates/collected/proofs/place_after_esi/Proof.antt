@@ -1,7 +1,7 @@
 -- By whether it is accepted.
 use Rattle.session.specs.Events.{placeAfterEsi}
-use Rattle.events.proofs.place_after_esi.Statement.{statement}
-use Rattle.events.proofs.place_after_esi.Tie as tie
+use Rattle.collected.proofs.place_after_esi.Statement.{statement}
+use Rattle.collected.proofs.place_after_esi.Tie as tie
 
 returns : tie.Need-returns
 unfolding placeAfterEsi

@@ -1,8 +1,8 @@
 -- The transport key is the one that the SUO's sender holds.
-use Rattle.events.proofs.Done.{once-made}
+use Rattle.collected.proofs.Done.{once-made}
 use borrow.Author.Needs.{needs}
-use Rattle.events.proofs.one_time_of.Statement.{statement}
-use Rattle.events.proofs.one_time_of.Tie as tie
+use Rattle.collected.proofs.one_time_of.Statement.{statement}
+use Rattle.collected.proofs.one_time_of.Tie as tie
 
 sender-requires : tie.Need-sender-requires
 sender-requires c κs = tt
