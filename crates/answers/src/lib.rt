@@ -48,7 +48,7 @@ pub fn verdict_answer(
     let settings = table::settings(t);
     let bank = settings.bank;
     let software = settings.software;
-    let c = verdict::customer_of(t, m);
+    let c = checks::customer_of(t, m);
     let working_keys = c.working;
     let transport_keys = c.transport;
     let working = changeover::held(working_keys, message::working_generation(m));

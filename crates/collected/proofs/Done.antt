@@ -16,11 +16,11 @@ use Rattle.table.specs.Table.{Table, placeOf}
 use Rattle.table.specs.declared.Found.{Found}
 use Rattle.table.specs.Decode.{tableOf}
 use Rattle.message.specs.Fields.{senderOf, methodOf, transportGenerationOf}
-use Rattle.verdict.specs.Checks.{keyOr0}
+use Rattle.checks.specs.Checks.{keyOr0}
 use Rattle.verdict.specs.Outcomes.{esiOutcome, esiLeaves, frameOutcome, frameLeaves}
-use Rattle.verdict.specs.declared.Collected.{Collected}
-use Rattle.verdict.specs.declared.Frame.{Frame}
-use Rattle.verdict.specs.declared.Occasion.{Occasion}
+use Rattle.checks.specs.declared.Collected.{Collected}
+use Rattle.checks.specs.declared.Frame.{Frame}
+use Rattle.checks.specs.declared.Occasion.{Occasion}
 use Rattle.verdict.specs.declared.Outcome.{Outcome}
 use Rattle.notice.specs.Codes.{codeIn, codes}
 use Rattle.reply.specs.declared.Answering.{Answering}

@@ -120,7 +120,7 @@ pub fn suo_done(s: session::Session, t: &[u8], alone: u32) -> session::Session
 }
 
 // The frame at its VAR's end, with the digest of the records before.
-fn frame_by(s: session::Session, var: verdict::Collected) -> verdict::Frame
+fn frame_by(s: session::Session, var: checks::Collected) -> checks::Frame
     ensures { λ r. ⌜ r ≡ frameBy s var ⌝ }
 {
     let batch = s.batch;
@@ -129,9 +129,9 @@ fn frame_by(s: session::Session, var: verdict::Collected) -> verdict::Frame
     let running = batch.running;
     let state = running.start;
     let boxes = des::box_table();
-    let keys = des::schedule(verdict::key_or_0(once));
+    let keys = des::schedule(checks::key_or_0(once));
     let digest = digest::finish(&boxes, keys, state);
-    verdict::Frame {
+    checks::Frame {
         suo,
         var,
         once,

@@ -93,19 +93,19 @@ fn rest_blank(text: [u8; 161], count: usize, from: usize) -> bool
 }
 
 // The message with its characters; those over in its last record are blank or not.
-pub fn collected_by(k: message::Kind, alone: u32, g: session::Gathered) -> verdict::Collected
+pub fn collected_by(k: message::Kind, alone: u32, g: session::Gathered) -> checks::Collected
     ensures { λ r. ⌜ r ≡ collectedBy k alone g ⌝ }
 {
     let text = g.text;
     let rest = rest_blank(text, g.count, message::length_of(k));
     if rest {
-        return verdict::Collected {
+        return checks::Collected {
             alone,
             blank: g.blank,
             text,
         };
     }
-    verdict::Collected {
+    checks::Collected {
         alone,
         blank: false,
         text,
@@ -156,11 +156,11 @@ pub fn no_characters() -> session::Gathered
     }
 }
 
-pub fn occasion_of(o: answers::Opening, made: u64) -> verdict::Occasion
+pub fn occasion_of(o: answers::Opening, made: u64) -> checks::Occasion
     ensures { λ r. ⌜ r ≡ occasion o made ⌝ }
 {
     let today = o.today;
-    verdict::Occasion {
+    checks::Occasion {
         today,
         kind: o.kind,
         clock: o.clock,
@@ -283,7 +283,7 @@ fn no_batch() -> session::Batch
     ensures { λ r. ⌜ r ≡ unopened .batch ⌝ }
 {
     session::Batch {
-        suo: verdict::Collected {
+        suo: checks::Collected {
             alone: 0,
             blank: false,
             text: [0; 161],

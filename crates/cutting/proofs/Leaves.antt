@@ -17,11 +17,11 @@ use Rattle.table.proofs.Decode.{rewritten-is}
 use Rattle.message.specs.Fields.{senderOf}
 use Rattle.message.specs.declared.Fault.{Fault}
 use Rattle.message.specs.declared.Fault.the-variants.{Sound, Found as FaultFound}
-use Rattle.verdict.specs.Checks.{firstFailing, esiChecks, frameChecks, keyOr0}
+use Rattle.checks.specs.Checks.{firstFailing, esiChecks, frameChecks, keyOr0}
 use Rattle.verdict.specs.Outcomes.{recordAfter, tableAfter, tableBy, esiTable, frameTable, esiLeaves, frameLeaves}
-use Rattle.verdict.specs.declared.Collected.{Collected}
-use Rattle.verdict.specs.declared.Frame.{Frame}
-use Rattle.verdict.specs.declared.Occasion.{Occasion}
+use Rattle.checks.specs.declared.Collected.{Collected}
+use Rattle.checks.specs.declared.Frame.{Frame}
+use Rattle.checks.specs.declared.Occasion.{Occasion}
 use Rattle.verdict.proofs.Leaves.{esi-leaves-table, frame-leaves-table}
 
 -- v is a table, of the day that b says

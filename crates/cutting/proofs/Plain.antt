@@ -18,7 +18,7 @@ use Rattle.digest.specs.Running.{tookBytes}
 use Rattle.digest.specs.declared.Running.{Running}
 use Rattle.digest.proofs.Folds.{took-append}
 use Rattle.changeover.specs.declared.Key.{Key}
-use Rattle.verdict.specs.Checks.{keyOr0}
+use Rattle.checks.specs.Checks.{keyOr0}
 use Rattle.whole.specs.Records.{lf, cr, sizeLimit}
 use Rattle.session.specs.Lines.{Event, characters, waited, eventOf, lineAfter}
 use Rattle.session.specs.Events.{Turn, silent, gatheredWith, gatheredAll, isData, batchWith, cipherOf, heardBy, heard}

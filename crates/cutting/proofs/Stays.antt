@@ -18,8 +18,8 @@ use Rattle.message.specs.Layout.{offsetIn}
 use Rattle.message.specs.Fields.{senderOf, onceFieldOf}
 use Rattle.message.specs.declared.Kind.{Kind}
 use Rattle.reply.proofs.Widths.{part-length}
-use Rattle.verdict.specs.Checks.{keyOr0}
-use Rattle.verdict.specs.declared.Collected.{Collected}
+use Rattle.checks.specs.Checks.{keyOr0}
+use Rattle.checks.specs.declared.Collected.{Collected}
 use Rattle.whole.specs.Messages.{aloneOf, oneTime, oneTimeOf}
 use Rattle.session.specs.Events.{gatheredWith, gatheredAll, cipherOf, heardBy, heard, nothing, placed, withBatch, judged, shut}
 use Rattle.session.specs.Machine.{withLine}

@@ -11,9 +11,9 @@ use Rattle.acceptance.specs.declared.Granted.{Granted}
 use Rattle.table.specs.Table.{Table}
 use Rattle.message.specs.declared.Fault.{Fault}
 use Rattle.message.specs.declared.Fault.the-variants.{Sound, Found}
-use Rattle.verdict.specs.Checks.{Check, firstFailing, esiChecks, frameChecks}
+use Rattle.checks.specs.Checks.{Check, firstFailing, esiChecks, frameChecks}
 use Rattle.verdict.specs.Outcomes.{grantTo, outcomeOf, tableBy, esiOutcome, esiTable, frameOutcome, frameTable}
-use Rattle.verdict.proofs.Order.{NoneFails, accepted-iff, found-first}
+use Rattle.checks.proofs.Order.{NoneFails, accepted-iff, found-first}
 use Rattle.reply.specs.declared.Answering.{Answering}
 use Rattle.answers.specs.Answers.{verdictAnswer}
 use Rattle.whole.specs.WholeFile.{Step, replies, occasion, esiEnds, frameOf, varEnds}

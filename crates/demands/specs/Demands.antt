@@ -16,8 +16,8 @@ use Rattle.table.specs.Decode.{tableOf, isTable}
 use Rattle.register.specs.Refusals.{Refusal, refusal, noTable}
 use Rattle.register.specs.Calls.{settingUpRefusals, addingRefusals, enteringRefusals, orderingRefusals}
 use Rattle.register.specs.declared.Setting.{Setting}
-use Rattle.verdict.specs.Checks.{Check, esiChecks, frameChecks}
-use Rattle.verdict.specs.declared.Collected.{Collected}
+use Rattle.checks.specs.Checks.{Check, esiChecks, frameChecks}
+use Rattle.checks.specs.declared.Collected.{Collected}
 use Rattle.notice.specs.Codes.{codeIn, codes}
 use Rattle.reply.specs.declared.Answering.{Answering}
 use Rattle.answers.specs.declared.Opening.{Opening}

@@ -162,7 +162,14 @@ pub fn size_passed(s: session::Session, t: &[u8]) -> session::Stepped
 {
     let place = s.place;
     match place {
-        session::Place::BeforeEsi => collected::bare(t, s, false, 1034, 0, collecting::closed_at(s)),
+        session::Place::BeforeEsi => collected::bare(
+            t,
+            s,
+            false,
+            1034,
+            0,
+            collecting::closed_at(s),
+        ),
         session::Place::Outside => collected::bare(t, s, true, 1034, 0, collecting::closed_at(s)),
         session::Place::Collecting(k) => {
             let pte = !collecting::is_esi(k);

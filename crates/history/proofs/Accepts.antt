@@ -20,13 +20,13 @@ use Rattle.message.specs.Fields.{senderOf, stampOf}
 use Rattle.message.specs.declared.Kind.the-variants.{Esi, Suo, Var}
 use Rattle.message.specs.declared.Fault.the-variants.{Sound}
 use Rattle.message.proofs.Laws.{sound-date}
-use Rattle.verdict.specs.Checks.{firstFailing, formChecks, partyChecks, stampChecks, roomChecks, pairChecks, keyChecks, esiChecks, frameChecks, keyOr0}
+use Rattle.checks.specs.Checks.{firstFailing, formChecks, partyChecks, stampChecks, roomChecks, pairChecks, keyChecks, esiChecks, frameChecks, keyOr0}
 use Rattle.verdict.specs.Outcomes.{recordAfter, tableAfter, esiTable, frameTable}
-use Rattle.verdict.specs.declared.Collected.{Collected}
-use Rattle.verdict.specs.declared.Frame.{Frame}
-use Rattle.verdict.specs.declared.Occasion.{Occasion}
-use Rattle.verdict.proofs.Order.{NoneFails, accepted, none-left, none-right}
-use Rattle.verdict.proofs.Parts.{esiKeys, typeChecks, esiParts, frameParts, esi-parts, frame-parts}
+use Rattle.checks.specs.declared.Collected.{Collected}
+use Rattle.checks.specs.declared.Frame.{Frame}
+use Rattle.checks.specs.declared.Occasion.{Occasion}
+use Rattle.checks.proofs.Order.{NoneFails, accepted, none-left, none-right}
+use Rattle.checks.proofs.Parts.{esiKeys, typeChecks, esiParts, frameParts, esi-parts, frame-parts}
 use Rattle.verdict.proofs.Laws.{Accepted, Marked, esi-accepted, frame-accepted, esi-marked, frame-marked, esi-others, frame-others, esi-is, frame-is, with-named, who-is, record-who}
 
 -- the message m was accepted on the table t, and u is the table after it

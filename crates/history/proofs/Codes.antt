@@ -14,11 +14,11 @@ use Rattle.register.proofs.Refused.{fails-true}
 use Rattle.acceptance.proofs.Grants.{codes as granted, grant-code}
 use Rattle.table.specs.Table.{Table}
 use Rattle.message.specs.declared.Fault.the-variants.{Found}
-use Rattle.verdict.specs.Checks.{Check, firstFailing, formChecks, partyChecks, stampChecks, roomChecks, pairChecks, keyChecks, esiChecks, frameChecks}
+use Rattle.checks.specs.Checks.{Check, firstFailing, formChecks, partyChecks, stampChecks, roomChecks, pairChecks, keyChecks, esiChecks, frameChecks}
 use Rattle.verdict.specs.Outcomes.{grantTo}
-use Rattle.verdict.specs.declared.Collected.{Collected}
-use Rattle.verdict.specs.declared.Frame.{Frame}
-use Rattle.verdict.specs.declared.Occasion.{Occasion}
+use Rattle.checks.specs.declared.Collected.{Collected}
+use Rattle.checks.specs.declared.Frame.{Frame}
+use Rattle.checks.specs.declared.Occasion.{Occasion}
 use Rattle.notice.specs.Codes.{codeIn, codes}
 
 -- K or E, and bare or full

@@ -16,10 +16,10 @@ use Rattle.table.proofs.Sound.{parts}
 use Rattle.table.proofs.Decode.{is-written, rewritten-is}
 use Rattle.message.specs.declared.Fault.{Fault}
 use Rattle.message.specs.declared.Fault.the-variants.{Sound, Found}
-use Rattle.verdict.specs.Checks.{firstFailing, esiChecks, frameChecks, keyOr0}
+use Rattle.checks.specs.Checks.{firstFailing, esiChecks, frameChecks, keyOr0}
 use Rattle.verdict.specs.Outcomes.{grantTo, outcomeOf, esiOutcome, frameOutcome, esiTable, frameTable, esiLeaves, frameLeaves}
-use Rattle.verdict.specs.declared.Collected.{Collected}
-use Rattle.verdict.specs.declared.Occasion.{Occasion}
+use Rattle.checks.specs.declared.Collected.{Collected}
+use Rattle.checks.specs.declared.Occasion.{Occasion}
 use Rattle.verdict.proofs.Laws.{esi-e-leaves, frame-e-leaves}
 use Rattle.verdict.proofs.Leaves.{esi-leaves-table, frame-leaves-table}
 use Rattle.reply.specs.declared.Answering.{Answering}

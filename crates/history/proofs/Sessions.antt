@@ -16,8 +16,8 @@ use Rattle.table.specs.Decode.{tableOf}
 use Rattle.message.specs.Fields.{onceFieldOf}
 use Rattle.message.specs.declared.Kind.{Kind}
 use Rattle.message.specs.declared.Kind.the-variants.{Suo}
-use Rattle.verdict.specs.Checks.{keyOr0}
-use Rattle.verdict.specs.declared.Collected.{Collected}
+use Rattle.checks.specs.Checks.{keyOr0}
+use Rattle.checks.specs.declared.Collected.{Collected}
 use Rattle.answers.specs.declared.Opening.{Opening}
 use Rattle.whole.specs.Messages.{wantsMore, oneTime, oneTimeOf}
 use Rattle.session.specs.Events.{gatheredWith, gatheredAll, isData, batchWith, cipherOf, heardBy, heard, nothing, placed, withBatch, collectedBy, suoDone, keepsOn, suoOn, aloneBy, suoStart, dataTaken, held}

@@ -11,7 +11,7 @@ use Rattle.ground.proofs.Choices.{picks}
 use Rattle.text.proofs.Lists.{picked}
 use Rattle.message.specs.declared.Kind.{Kind}
 use Rattle.message.specs.declared.Kind.the-variants.{Esi, Suo, Var}
-use Rattle.verdict.specs.declared.Collected.{Collected}
+use Rattle.checks.specs.declared.Collected.{Collected}
 use Rattle.answers.specs.declared.Opening.{Opening}
 use Rattle.session.specs.Lines.{Event, characters, recordEnds, sizePassed, eventOf}
 use Rattle.session.specs.Events.{Turn, silent, replies, nothing, placed, bareTurn, shut, heard, collectedBy, esiDone, varDone, esiOn, varOn, esiStart, suoStart, varStart, firstEnds, outsideEnds, frameEnds, collectingEnds, endsIn, recordEnded, isEsi, passedIn, passed, cutShort, finishedIn, fileEnded}

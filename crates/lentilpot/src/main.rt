@@ -1,6 +1,7 @@
 // The program: a bank's table of customers in a file, and the files that customers send. Thin over `front`; `showing` has the command show, `terminal` the words, `folder` the files.
 mod keep;
 mod receive;
+
 use terminal::asked;
 use terminal::say;
 

@@ -18,7 +18,7 @@ use Rattle.table.proofs.Decode
 use Rattle.register.specs.Refusals.{noTable, badDay}
 use Rattle.register.proofs.Refused.{served, fails-false, neither, either-none}
 use Rattle.register.proofs.Rewritten.{served-leaves}
-use Rattle.verdict.specs.Checks.{keyOr0}
+use Rattle.checks.specs.Checks.{keyOr0}
 use Rattle.answers.specs.declared.Opening.{Opening}
 use Rattle.session.specs.Machine.{opened}
 use Rattle.session.specs.Ranges.{Fits, inRange, isClosed, readRefused}

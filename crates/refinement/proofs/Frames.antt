@@ -22,8 +22,8 @@ use Rattle.changeover.specs.declared.Key.{Key}
 use Rattle.changeover.specs.declared.Key.the-variants.{Missing, Is}
 use Rattle.table.specs.Table.{Table}
 use Rattle.message.specs.Fields.{methodOf}
-use Rattle.verdict.specs.Checks.{keyOr0}
-use Rattle.verdict.specs.declared.Collected.{Collected}
+use Rattle.checks.specs.Checks.{keyOr0}
+use Rattle.checks.specs.declared.Collected.{Collected}
 use Rattle.whole.specs.Messages.{oneTime, oneTimeOf}
 use Rattle.whole.specs.WholeFile.{Opened, withRecord, frameOf}
 use Rattle.session.specs.Events.{batchWith, isData, cipherOf, frameBy}

@@ -16,7 +16,7 @@ use Rattle.ground.proofs.Choices.{picks, skips}
 use Rattle.text.specs.Characters.{blank, allBlank}
 use Rattle.message.specs.Layout.{layoutLength}
 use Rattle.message.specs.declared.Kind.{Kind}
-use Rattle.verdict.specs.declared.Collected.{Collected}
+use Rattle.checks.specs.declared.Collected.{Collected}
 use Rattle.whole.specs.Messages.{begins, aloneOf, wantsMore, textOf, collectedAs}
 use Rattle.session.specs.Events.{gatheredWith, gatheredAll, nothing, held, collectedBy}
 use Rattle.session.specs.declared.Gathered.{Gathered}

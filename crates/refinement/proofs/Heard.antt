@@ -9,7 +9,7 @@ use lib.ListN.{length}
 use Rattle.ground.specs.Choice.{pick}
 use Rattle.des.specs.Des.{enciphered}
 use Rattle.message.specs.declared.Kind.the-variants.{Var}
-use Rattle.verdict.specs.Checks.{keyOr0}
+use Rattle.checks.specs.Checks.{keyOr0}
 use Rattle.answers.specs.declared.Opening.{Opening}
 use Rattle.whole.specs.WholeFile.{Situation, beforeEsi, collectingEsi, outside, collectingSuo, inFrame, collectingVar, closed, Standing, moved}
 use Rattle.session.specs.Events.{gatheredAll, isData, batchWith, heardBy, cipherOf, heard}

@@ -16,7 +16,7 @@ use Rattle.message.specs.Fields.{senderOf}
 use Rattle.message.specs.declared.Kind.{Kind}
 use Rattle.message.specs.declared.Kind.the-variants.{Esi, Suo, Var}
 use Rattle.verdict.specs.Outcomes.{esiOutcome, esiTable, esiLeaves, frameOutcome, frameTable, frameLeaves}
-use Rattle.verdict.specs.declared.Collected.{Collected}
+use Rattle.checks.specs.declared.Collected.{Collected}
 use Rattle.verdict.specs.declared.Outcome.{Outcome}
 use Rattle.notice.specs.Codes.{codeIn, codes}
 use Rattle.reply.specs.declared.Answering.{Answering}

@@ -19,11 +19,11 @@ use Rattle.table.proofs.Decode.{is-written, rewritten-is}
 use Rattle.register.proofs.Rewritten.{written-twice}
 use Rattle.message.specs.declared.Fault.{Fault}
 use Rattle.message.specs.declared.Fault.the-variants.{Sound, Found as FaultFound}
-use Rattle.verdict.specs.Checks.{keyOr0}
+use Rattle.checks.specs.Checks.{keyOr0}
 use Rattle.verdict.specs.Outcomes.{tableAfter, tableBy, esiTable, frameTable, esiLeaves, frameLeaves}
-use Rattle.verdict.specs.declared.Collected.{Collected}
-use Rattle.verdict.specs.declared.Frame.{Frame}
-use Rattle.verdict.specs.declared.Occasion.{Occasion}
+use Rattle.checks.specs.declared.Collected.{Collected}
+use Rattle.checks.specs.declared.Frame.{Frame}
+use Rattle.checks.specs.declared.Occasion.{Occasion}
 use Rattle.verdict.proofs.Leaves.{esi-leaves-table, frame-leaves-table}
 use Rattle.refinement.specs.Stands.{TableIs}
 

@@ -14,7 +14,7 @@ use Rattle.table.specs.Written.{written}
 use Rattle.table.specs.Decode.{tableOf, isTable}
 use Rattle.message.specs.Fields.{methodOf}
 use Rattle.message.specs.declared.Kind.the-variants.{Esi, Suo, Var}
-use Rattle.verdict.specs.Checks.{keyOr0}
+use Rattle.checks.specs.Checks.{keyOr0}
 use Rattle.answers.specs.declared.Opening.{Opening}
 use Rattle.whole.specs.Records.{withoutCr, sizeLimit}
 use Rattle.whole.specs.Messages.{wantsMore, textOf}

@@ -9,7 +9,7 @@ use native.Mathlib.Numerals.{add-one}
 use lib.ListN.{length, getD, take, drop, length-drop, take-append-drop, drop-of-length-le}
 use lib.Seq.{drop-cons, drop-drop, length-take-le}
 use Rattle.ground.proofs.Choices.{picks, skips}
-use Rattle.verdict.specs.Checks.{keyOr0}
+use Rattle.checks.specs.Checks.{keyOr0}
 use Rattle.changeover.specs.declared.Key.{Key}
 use Rattle.session.specs.Events.{Turn, silent, noReply, cipherOf, heardBy, heard}
 use Rattle.session.specs.Machine.{Scan, scanOn, scanned, stepped, withLine}

@@ -10,7 +10,7 @@ use lib.Dec.{eqb}
 use Rattle.ground.specs.Choice.{pick}
 use Rattle.ground.proofs.Choices.{picks, skips, either-left, either-right, either-decides}
 use Rattle.des.specs.Des.{scheduleOf}
-use Rattle.verdict.specs.Checks.{keyOr0}
+use Rattle.checks.specs.Checks.{keyOr0}
 use Rattle.whole.specs.Records.{lf, cr, sizeLimit}
 use Rattle.session.specs.Lines.{Event, characters, recordEnds, sizePassed, waited, eventOf, lineAfter, lineEnded}
 use Rattle.session.specs.Events.{Turn, silent, noReply, bareTurn, replies, heard, recordEnded, passedIn, passed}

@@ -8,7 +8,7 @@ use borrow.Author.Tests.{eq-eqb, ne-eqb}
 use Rattle.ground.proofs.Choices.{picks, skips}
 use Rattle.des.specs.Des.{scheduleOf, cipherBy}
 use Rattle.des.specs.Tables.{boxes}
-use Rattle.verdict.specs.Checks.{keyOr0}
+use Rattle.checks.specs.Checks.{keyOr0}
 use Rattle.whole.specs.Records.{cr}
 use Rattle.session.specs.Lines.{waited}
 use Rattle.session.specs.Events.{cipherOf, heardBy, heard}

@@ -5,7 +5,7 @@ ghost use Prim.Native.Nat.{_+_, _-_, _<_, _≤_};
 ghost use lib.ListN.{length};
 ghost use Rattle.des.specs.Des.{scheduleOf};
 ghost use Rattle.des.specs.Tables.{boxes};
-ghost use Rattle.verdict.specs.Checks.{keyOr0};
+ghost use Rattle.checks.specs.Checks.{keyOr0};
 ghost use Rattle.session.specs.Lines.{waited};
 ghost use Rattle.session.specs.Events.{heard};
 ghost use Rattle.session.specs.Machine.{withLine, scanned, stepped, lastEnded};
@@ -24,7 +24,7 @@ fn batch_key(s: session::Session) -> u64
 {
     let batch = s.batch;
     let once = batch.once;
-    verdict::key_or_0(once)
+    checks::key_or_0(once)
 }
 
 // Where a run of characters ends: at an LF, a CR, the size limit or the input's end; none while a CR waits.

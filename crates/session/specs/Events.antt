@@ -15,11 +15,11 @@ use Rattle.message.specs.Layout.{layoutLength}
 use Rattle.message.specs.Fields.{senderOf, methodOf}
 use Rattle.message.specs.declared.Kind.{Kind}
 use Rattle.message.specs.declared.Kind.the-variants.{Esi, Suo, Var}
-use Rattle.verdict.specs.Checks.{keyOr0}
+use Rattle.checks.specs.Checks.{keyOr0}
 use Rattle.verdict.specs.Outcomes.{esiOutcome, esiLeaves, frameOutcome, frameLeaves}
-use Rattle.verdict.specs.declared.Collected.{Collected}
-use Rattle.verdict.specs.declared.Frame.{Frame}
-use Rattle.verdict.specs.declared.Occasion.{Occasion}
+use Rattle.checks.specs.declared.Collected.{Collected}
+use Rattle.checks.specs.declared.Frame.{Frame}
+use Rattle.checks.specs.declared.Occasion.{Occasion}
 use Rattle.verdict.specs.declared.Outcome.{Outcome}
 use Rattle.notice.specs.Codes.{codeIn, codes}
 use Rattle.reply.specs.declared.Answering.{Answering}

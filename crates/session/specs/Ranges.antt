@@ -8,7 +8,7 @@ use lib.ListN.{length}
 use Rattle.ground.specs.Choice.{both, either, fails, between}
 use Rattle.calendar.specs.Dates.{realTime}
 use Rattle.message.specs.declared.Kind.{Kind}
-use Rattle.verdict.specs.Checks.{keyOr0}
+use Rattle.checks.specs.Checks.{keyOr0}
 use Rattle.session.specs.declared.Place.{Place}
 use Rattle.session.specs.declared.Place.the-variants.{BeforeEsi, Outside, Collecting, InData, Closed}
 use Rattle.session.specs.declared.Session.{Session}

@@ -84,12 +84,12 @@ fn gathered_in(b: &[u8]) -> session::Gathered
     }
 }
 
-fn suo_in(b: &[u8]) -> verdict::Collected
+fn suo_in(b: &[u8]) -> checks::Collected
     requires { ⌜ length (now b) ≡ sessionSize ⌝ }
     ensures { λ r. ⌜ r ≡ sessionOf (now (b .entry)) .batch .suo ⌝ }
 {
     let text = text_at(b, 233);
-    verdict::Collected {
+    checks::Collected {
         alone: splices::read4(b, 228),
         blank: splices::read1(b, 232) == 1,
         text,

@@ -1,13 +1,8 @@
 -- What the functions answer, from what the calls in them say: each is the definition with its parts replaced by their equals.
 -- Assumes nothing.
 use mathlib.Core.Path.{_≡_, sym, ap, ap₂, _∙_}
-use mathlib.Core.Bool.{true, not}
-use mathlib.Core.List.{List, _++_}
-use Prim.Native.Nat.{ℕ, _-_, _/_, _%_, _^_, _≤_, _<_}
-use native.Mathlib.Nat.{div-eq-of-lt, pow-le-pow-right, lt-of-lt-of-le}
-use lib.Dec.{eqb, lit<}
-use Rattle.ground.specs.Choice.{fails}
-use Rattle.customer.proofs.Chain.{turned}
+use mathlib.Core.List.{List}
+use Prim.Native.Nat.{ℕ, _-_}
 use Rattle.keys.specs.Maker.{clockValue}
 use Rattle.customer.specs.declared.Customer.{Customer}
 use Rattle.customer.specs.declared.Settings.{Settings}
@@ -20,79 +15,15 @@ use Rattle.table.specs.Named.{named}
 use Rattle.table.specs.Decode.{tableOf}
 use Rattle.table.specs.Stored.{seedStored}
 use Rattle.table.specs.declared.Found.{Found}
-use Rattle.message.specs.Rules.{orElse}
 use Rattle.message.specs.Fields.{senderOf, stampOf, workingGenerationOf, requestOf}
-use Rattle.message.specs.declared.Kind.the-variants.{Esi, Suo, Var}
 use Rattle.message.specs.declared.Fault.{Fault}
 use Rattle.message.specs.declared.Fault.the-variants.{Sound, Found as FaultFound}
-use Rattle.verdict.specs.Checks.{firstFailing, typeAllowed, formChecks, partyChecks, stampChecks, roomChecks, pairChecks, keyChecks, esiChecks, frameChecks, keyOr0}
+use Rattle.checks.specs.Checks.{firstFailing, esiChecks, frameChecks, keyOr0}
 use Rattle.verdict.specs.Outcomes.{grantTo, recordAfter, outcomeOf, storedAt, bytesAfter, bytesBy, esiOutcome, esiLeaves, frameOutcome, frameLeaves}
-use Rattle.verdict.specs.declared.Collected.{Collected}
-use Rattle.verdict.specs.declared.Frame.{Frame}
-use Rattle.verdict.specs.declared.Occasion.{Occasion}
+use Rattle.checks.specs.declared.Collected.{Collected}
+use Rattle.checks.specs.declared.Frame.{Frame}
+use Rattle.checks.specs.declared.Occasion.{Occasion}
 use Rattle.verdict.specs.declared.Outcome.{Outcome}
-use Rattle.verdict.proofs.Order.{joined}
-use Rattle.verdict.proofs.Parts.{esiKeys, typeChecks, esiParts, frameParts, esi-parts, frame-parts}
-
--- ---- the data type
-
-type-of : (types n k : ℕ) → k ≡ n - 1 → typeAllowed types n ≡ eqb (types / 2 ^ k % 2) 1
-unfolding typeAllowed
-type-of types n k e = rw e
-
-pub type-read : (types n k : ℕ) → k ≡ n - 1 → not (eqb (types / 2 ^ k % 2) 1) ≡ fails (typeAllowed types n)
-type-read types n k e = turned (sym (type-of types n k e))
-
--- 32 bits have no more types
-pub type-none : (types n k : ℕ) → k ≡ n - 1 → types < 2 ^ 32 → 32 ≤ k → true ≡ fails (typeAllowed types n)
-unfolding fails
-type-none types n k e h l =
-    let z : types / 2 ^ k ≡ 0 = div-eq-of-lt (lt-of-lt-of-le h (pow-le-pow-right (lit< tt) l)) in
-    sym (ap fails (type-of types n k e ∙ ap (λ (x : ℕ). eqb (x % 2) 1) z))
-
--- ---- the two orders
-
-pub esi-first : (t : Table) (today : ℕ) (m : Collected) (c : Customer) {r r₁ r₂ r₃ f p s k o : Fault}
-    → c ≡ named t (senderOf (m .text))
-    → r ≡ orElse f r₁ → r₁ ≡ orElse p r₂ → r₂ ≡ orElse s r₃ → r₃ ≡ orElse k o
-    → f ≡ firstFailing (formChecks Esi m) → p ≡ firstFailing (partyChecks t (m .text))
-    → s ≡ firstFailing (stampChecks t c today (m .text))
-    → k ≡ firstFailing (esiKeys c (m .text))
-    → o ≡ firstFailing (roomChecks t c today)
-    → r ≡ firstFailing (esiChecks t today m)
-esi-first t today m c e a₀ a₁ a₂ a₃ f p s k o =
-    let room = roomChecks t c today in
-    let keys = esiKeys c (m .text) in
-    let stamp = stampChecks t c today (m .text) in
-    let party = partyChecks t (m .text) in
-    joined (formChecks Esi m) (party ++ (stamp ++ (keys ++ room))) a₀ f
-    (joined party (stamp ++ (keys ++ room)) a₁ p (joined stamp (keys ++ room) a₂ s (joined keys room a₃ k o)))
-    ∙ ap (λ (x : Customer). firstFailing (esiParts t x today m)) e
-    ∙ ap firstFailing (sym (esi-parts t today m))
-
-pub frame-first : (t : Table) (today kind : ℕ) (f : Frame) (c : Customer) {r r₁ r₂ r₃ r₄ r₅ r₆ u v p d b s k o : Fault}
-    → c ≡ named t (senderOf (f .suo .text))
-    → r ≡ orElse u r₁ → r₁ ≡ orElse v r₂ → r₂ ≡ orElse p r₃ → r₃ ≡ orElse d r₄ → r₄ ≡ orElse b r₅ → r₅ ≡ orElse s r₆ → r₆ ≡ orElse k o
-    → u ≡ firstFailing (formChecks Suo (f .suo)) → v ≡ firstFailing (formChecks Var (f .var))
-    → p ≡ firstFailing (partyChecks t (f .suo .text)) → d ≡ firstFailing (typeChecks c kind)
-    → b ≡ firstFailing (pairChecks (f .suo .text) (f .var .text)) → s ≡ firstFailing (stampChecks t c today (f .suo .text))
-    → k ≡ firstFailing (keyChecks t c today f) → o ≡ firstFailing (roomChecks t c today)
-    → r ≡ firstFailing (frameChecks t today kind f)
-frame-first t today kind f c e a₀ a₁ a₂ a₃ a₄ a₅ a₆ u v p d b s k o =
-    let l₆ = keyChecks t c today f ++ roomChecks t c today in
-    let l₅ = stampChecks t c today (f .suo .text) ++ l₆ in
-    let l₄ = pairChecks (f .suo .text) (f .var .text) ++ l₅ in
-    let l₃ = typeChecks c kind ++ l₄ in
-    let l₂ = partyChecks t (f .suo .text) ++ l₃ in
-    let l₁ = formChecks Var (f .var) ++ l₂ in
-    joined (formChecks Suo (f .suo)) l₁ a₀ u
-    (joined (formChecks Var (f .var)) l₂ a₁ v
-    (joined (partyChecks t (f .suo .text)) l₃ a₂ p
-    (joined (typeChecks c kind) l₄ a₃ d
-    (joined (pairChecks (f .suo .text) (f .var .text)) l₅ a₄ b
-    (joined (stampChecks t c today (f .suo .text)) l₆ a₅ s (joined (keyChecks t c today f) (roomChecks t c today) a₆ k o))))))
-    ∙ ap (λ (x : Customer). firstFailing (frameParts t x today kind f)) e
-    ∙ ap firstFailing (sym (frame-parts t today kind f))
 
 -- ---- acceptance
 

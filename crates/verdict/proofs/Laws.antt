@@ -3,7 +3,6 @@
 use mathlib.Core.Path.{_≡_, refl, sym, ap, ap₂, _∙_, subst}
 use mathlib.Core.Bool.{true, false}
 use mathlib.Core.List.{List, [], _∷_, _++_}
-use mathlib.Core.Logic.{_⊎_, ⊎-elim}
 use Prim.Native.Nat.{ℕ, _+_, _≤_, _<_}
 use native.Mathlib.Omega.{arith}
 use borrow.Author.Tests.{leb-false, lt-ltb}
@@ -28,28 +27,16 @@ use Rattle.message.specs.declared.Kind.{Kind}
 use Rattle.message.specs.declared.Kind.the-variants.{Esi, Suo, Var}
 use Rattle.message.specs.declared.Fault.{Fault}
 use Rattle.message.specs.declared.Fault.the-variants.{Sound, Found as FaultFound}
-use Rattle.message.proofs.Laws.{fault-code, sound-stamp}
-use Rattle.verdict.specs.Checks.{checkField, firstFailing, faultIs, faultField, formChecks, partyChecks, stampChecks, roomChecks, pairChecks, keyChecks, esiChecks, frameChecks, keyOr0}
+use Rattle.message.proofs.Laws.{sound-stamp}
+use Rattle.checks.specs.Checks.{firstFailing, formChecks, partyChecks, stampChecks, roomChecks, pairChecks, keyChecks, esiChecks, frameChecks, keyOr0}
 use Rattle.verdict.specs.Outcomes.{grantTo, recordAfter, tableAfter, tableBy, bytesBy, esiTable, frameTable, esiLeaves, frameLeaves}
-use Rattle.verdict.specs.declared.Collected.{Collected}
-use Rattle.verdict.specs.declared.Frame.{Frame}
-use Rattle.verdict.specs.declared.Occasion.{Occasion}
+use Rattle.checks.specs.declared.Collected.{Collected}
+use Rattle.checks.specs.declared.Frame.{Frame}
+use Rattle.checks.specs.declared.Occasion.{Occasion}
 use Rattle.verdict.proofs.Keeps.{Kept, grant-kept, stamp-keeps}
-use Rattle.verdict.proofs.Parts.{esiKeys, typeChecks, esiParts, frameParts, esi-parts, frame-parts}
-use Rattle.verdict.proofs.Order.{NoneFails, accepted, none-fails, none-left, none-right}
-
--- ---- the form
-
-coded : (f : Fault) → ((c n : ℕ) → f ≡ FaultFound c n → (c ≡ 1010) ⊎ (c ≡ 1011) ⊎ (c ≡ 1032))
-    → f ≡ firstFailing (checkField 1032 (faultField f) (faultIs 1032 f) ∷ checkField 1010 (faultField f) (faultIs 1010 f) ∷ checkField 1011 (faultField f) (faultIs 1011 f) ∷ [])
-unfolding firstFailing faultField faultIs pick
-coded Sound h = refl
-coded (FaultFound c n) h = ⊎-elim (λ e. rw e) (⊎-elim (λ e. rw e) (λ e. rw e)) (h c n refl)
-
--- the first failing check of form is the first fault of form
-pub form-is : (k : Kind) (m : Collected) → faultOf k (m .alone) (m .blank) (m .text) ≡ firstFailing (formChecks k m)
-unfolding formChecks
-form-is k m = coded (faultOf k (m .alone) (m .blank) (m .text)) (λ c n e. fault-code k _ _ _ c n e)
+use Rattle.checks.proofs.Parts.{esiKeys, typeChecks, esiParts, frameParts, esi-parts, frame-parts}
+use Rattle.checks.proofs.Faults.{form-is}
+use Rattle.checks.proofs.Order.{NoneFails, accepted, none-fails, none-left, none-right}
 
 -- ---- with E nothing changes
 

@@ -31,12 +31,12 @@ use Rattle.table.proofs.Stores.{store-is, seed-is}
 use Rattle.message.specs.Fields.{senderOf}
 use Rattle.message.specs.declared.Fault.{Fault}
 use Rattle.message.specs.declared.Fault.the-variants.{Sound, Found as FaultFound}
-use Rattle.verdict.specs.Checks.{firstFailing, keyOr0, keyChecks, frameChecks}
+use Rattle.checks.specs.Checks.{firstFailing, keyOr0, keyChecks, frameChecks}
 use Rattle.verdict.specs.Outcomes.{grantTo, recordAfter, tableAfter, tableBy, storedAt, bytesAfter, bytesBy, esiTable, frameTable, esiLeaves, frameLeaves}
-use Rattle.verdict.specs.declared.Collected.{Collected}
-use Rattle.verdict.specs.declared.Frame.{Frame}
-use Rattle.verdict.specs.declared.Occasion.{Occasion}
-use Rattle.verdict.proofs.Order.{NoneFails}
+use Rattle.checks.specs.declared.Collected.{Collected}
+use Rattle.checks.specs.declared.Frame.{Frame}
+use Rattle.checks.specs.declared.Occasion.{Occasion}
+use Rattle.checks.proofs.Order.{NoneFails}
 use Rattle.verdict.proofs.Keeps.{grant-fits, grant-seed-lt, stamp-fits}
 use Rattle.verdict.proofs.Laws.{Accepted, esi-accepted, frame-accepted, frame-passed, named-at, with-named, who-is, record-who, room-after}
 

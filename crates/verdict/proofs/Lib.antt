@@ -1,7 +1,4 @@
 -- Laws that belong to no one function.
-pub mod Order
-pub mod Parts
-pub mod Tables
 pub mod Judged
 pub mod Keeps
 pub mod Laws

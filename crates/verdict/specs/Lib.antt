@@ -1,3 +1,2 @@
 -- What the contracts of `verdict` cite.
-pub mod Checks
 pub mod Outcomes

@@ -18,10 +18,10 @@ use Rattle.table.specs.declared.Found.the-variants.{At, Unknown}
 use Rattle.message.specs.Fields.{senderOf, stampOf, workingGenerationOf, requestOf}
 use Rattle.message.specs.declared.Fault.{Fault}
 use Rattle.message.specs.declared.Fault.the-variants.{Sound, Found as FaultFound}
-use Rattle.verdict.specs.Checks.{firstFailing, esiChecks, frameChecks, keyOr0}
-use Rattle.verdict.specs.declared.Collected.{Collected}
-use Rattle.verdict.specs.declared.Frame.{Frame}
-use Rattle.verdict.specs.declared.Occasion.{Occasion}
+use Rattle.checks.specs.Checks.{firstFailing, esiChecks, frameChecks, keyOr0}
+use Rattle.checks.specs.declared.Collected.{Collected}
+use Rattle.checks.specs.declared.Frame.{Frame}
+use Rattle.checks.specs.declared.Occasion.{Occasion}
 use Rattle.verdict.specs.declared.Outcome.{Outcome}
 
 -- ---- acceptance

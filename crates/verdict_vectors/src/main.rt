@@ -69,9 +69,9 @@ fn show(f: message::Fault) {
     }
 }
 
-fn occasion(kind: u32) -> verdict::Occasion {
+fn occasion(kind: u32) -> checks::Occasion {
     let today = calendar::Date { yymmdd: 261113 };
-    verdict::Occasion {
+    checks::Occasion {
         today: today,
         kind: kind,
         clock: 0,
@@ -79,8 +79,8 @@ fn occasion(kind: u32) -> verdict::Occasion {
     }
 }
 
-fn collected(alone: u32, m: [u8; 161]) -> verdict::Collected {
-    verdict::Collected {
+fn collected(alone: u32, m: [u8; 161]) -> checks::Collected {
+    checks::Collected {
         alone: alone,
         blank: true,
         text: m,
@@ -161,15 +161,15 @@ fn digest_of(mark: u8) -> digest::Answer {
 
 fn esi_case(t: &[u8], line: &[u8], marks: [u8; 6]) {
     let m = collected(digit(marks[3]), closed(esi(), line));
-    show(verdict::check_esi(t, occasion(digit(marks[1])), m));
+    show(checks::check_esi(t, occasion(digit(marks[1])), m));
 }
 
-fn frame_of(line: &[u8], marks: [u8; 6]) -> verdict::Frame {
+fn frame_of(line: &[u8], marks: [u8; 6]) -> checks::Frame {
     let opening = collected(digit(marks[2]), changed(changed(suo(), line, 5), line, 6));
     let closing = collected(digit(marks[3]), closed(var(), line));
     let key = once_of(marks[4]);
     let digest = digest_of(marks[5]);
-    verdict::Frame {
+    checks::Frame {
         suo: opening,
         var: closing,
         once: key,
@@ -178,7 +178,7 @@ fn frame_of(line: &[u8], marks: [u8; 6]) -> verdict::Frame {
 }
 
 fn frame_case(t: &[u8], line: &[u8], marks: [u8; 6]) {
-    show(verdict::check_frame(t, occasion(digit(marks[1])), frame_of(line, marks)));
+    show(checks::check_frame(t, occasion(digit(marks[1])), frame_of(line, marks)));
 }
 
 fn said(line: &[u8]) {

@@ -21,7 +21,7 @@ use Rattle.table.specs.declared.Found.the-variants.{At, Unknown}
 use Rattle.message.specs.Layout.{layoutLength}
 use Rattle.message.specs.Fields.{senderOf, transportGenerationOf, onceFieldOf}
 use Rattle.message.specs.declared.Kind.{Kind}
-use Rattle.verdict.specs.declared.Collected.{Collected}
+use Rattle.checks.specs.declared.Collected.{Collected}
 
 -- a record whose first five characters are these
 unfoldable pub begins : String → List ℕ → Bool

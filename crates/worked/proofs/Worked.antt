@@ -14,7 +14,7 @@ use Rattle.calendar.specs.Banking.{bankingDay, bankingAmong, bankingDaysAfter, 
 use Rattle.keys.specs.Parity.{ones, parityByte}
 use Rattle.message.specs.Layout.{offsetIn, widthIn, fieldText}
 use Rattle.message.specs.Fields.{dateOfStamp}
-use Rattle.verdict.specs.Checks.{formChecks, partyChecks, stampChecks, roomChecks, esiChecks}
+use Rattle.checks.specs.Checks.{formChecks, partyChecks, stampChecks, roomChecks, esiChecks}
 use Rattle.worked.specs.Examples.{tableWith, stamped, failing, examples, holdAll}
 
 pub worked : holdAll examples ≡ true

@@ -15,7 +15,7 @@ use Rattle.calendar.specs.Dates.{realDate, dayNumber}
 use Rattle.calendar.specs.Banking.{weekday}
 use Rattle.keys.specs.Parity.{parityByte}
 use Rattle.table.specs.Table.{Table}
-use Rattle.verdict.specs.Checks.{Check, esiChecks}
+use Rattle.checks.specs.Checks.{Check, esiChecks}
 
 -- a table with some holidays and no customers
 unfoldable pub tableWith : List ℕ → Table

@@ -27,7 +27,7 @@ use Rattle.table.specs.Table.{previousFits, customerFits, settingsFit, rising, 
 use Rattle.message.specs.Layout.{total, offsetIn, widthIn, nameIn, fieldText, layout, layoutLength}
 use Rattle.message.specs.Rules.{hexFields, formatHolds, oneOf, methods, commonRules, ownRules, obeys, valueHolds, firstBroken, orElse, firstFault, faultOf}
 use Rattle.message.specs.Fields.{receiverOf, senderOf, stampTextOf, stampOf, dateOfStamp, versionOf, methodOf, transportGenerationOf, workingGenerationOf, onceFieldOf, digestFieldOf, checksumFieldOf, requestOf}
-use Rattle.verdict.specs.Checks.{firstFailing, typeAllowed, checksumDiffers, digestDiffers, isMissing, keyOr0, faultIs, faultField, formChecks, partyChecks, stampChecks, roomChecks, esiChecks, pairChecks, keyChecks, frameChecks}
+use Rattle.checks.specs.Checks.{firstFailing, typeAllowed, checksumDiffers, digestDiffers, isMissing, keyOr0, faultIs, faultField, formChecks, partyChecks, stampChecks, roomChecks, esiChecks, pairChecks, keyChecks, frameChecks}
 use Rattle.verdict.specs.Outcomes.{grantTo, recordAfter, tableAfter, outcomeOf, tableBy, esiOutcome, esiTable, frameOutcome, frameTable, storedAt, bytesAfter, bytesBy, esiLeaves, frameLeaves}
 use Rattle.notice.specs.Codes.{codeIn, fieldName, textOf}
 use Rattle.reply.specs.Reply.{clockText, noticeOf, hexOr, sealed, sealedFlag, opening, fullBody, bareBody, head, summed, checksumKey, enclosedKey, replyOf, replyLength, replied, writtenLength}

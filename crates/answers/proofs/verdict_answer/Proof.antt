@@ -10,7 +10,7 @@ use Rattle.message.proofs.transport_generation.Reads as transport-generation-re
 use Rattle.message.proofs.working_generation.Reads as working-generation-reads
 use Rattle.notice.proofs.is_bare.Reads as is-bare-reads
 use Rattle.table.proofs.settings.Reads as settings-reads
-use Rattle.verdict.proofs.customer_of.Reads as customer-of-reads
+use Rattle.checks.proofs.customer_of.Reads as customer-of-reads
 
 settings-requires : tie.Need-settings-requires
 settings-requires c κs = search needs

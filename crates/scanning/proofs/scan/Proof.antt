@@ -4,7 +4,7 @@ use mathlib.Core.Path.{_≡_, refl, sym, ap, _∙_}
 use native.Mathlib.Omega.{arith}
 use lib.ListN.{length}
 use Rattle.des.specs.Des.{scheduleOf}
-use Rattle.verdict.specs.Checks.{keyOr0}
+use Rattle.checks.specs.Checks.{keyOr0}
 use Rattle.session.specs.Events.{silent}
 use Rattle.session.specs.Machine.{Scan, scanned}
 use Rattle.scanning.proofs.Scans.{left-at, run-key, run-length, runs-through, goes-on, replied, all-taken, from-start}

@@ -3,7 +3,7 @@ use mathlib.Core.Path.{sym, ap₂, _∙_}
 use Prim.Native.Nat.{ℕ}
 use mathlib.Core.List.{List}
 use Rattle.acceptance.specs.Stamps.{withStamp}
-use Rattle.verdict.proofs.Tables.{lent-room, lent-count, lent-dates}
+use Rattle.checks.proofs.Tables.{lent-room, lent-count, lent-dates}
 use borrow.Author.Needs.{needs}
 use Rattle.verdict.proofs.marked.Statement.{statement}
 use Rattle.verdict.proofs.marked.Tie as tie

@@ -1,0 +1,5 @@
+-- Laws that belong to no one function.
+pub mod Order
+pub mod Parts
+pub mod Tables
+pub mod Faults

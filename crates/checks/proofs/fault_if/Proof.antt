@@ -1,0 +1,16 @@
+-- The test decides.
+use Rattle.ground.specs.Choice.{pick}
+use Rattle.checks.specs.Checks.{firstFailing}
+use Rattle.checks.proofs.fault_if.Statement.{statement}
+use Rattle.checks.proofs.fault_if.Tie as tie
+
+returns : tie.Need-returns
+unfolding firstFailing pick
+returns c = rw (c .if1 .taken)
+
+returns-2 : tie.Need-returns-2
+unfolding firstFailing pick
+returns-2 c = rw (c .if1 .left)
+
+pub fault-if-spec : {M : Type 1} → statement M
+fault-if-spec = tie.close (tie.spec returns returns-2)

@@ -1,0 +1,167 @@
+-- The order of checks (document 01, 'Order of checks'): each order is one list, and the first failing check gives the code.
+-- Assumes nothing.
+use Prim.Native.Nat.{ℕ, _-_, _/_, _%_, _^_}
+use mathlib.Core.Bool.{Bool, true, false}
+use mathlib.Core.List.{List, [], _∷_, _++_}
+use lib.Dec.{eqb, ltb, leb}
+use lib.ListN.{length}
+use Rattle.ground.specs.Choice.{either, fails, pick}
+use Rattle.ground.specs.Lists.{same}
+use Rattle.calendar.specs.Dates.{earlier}
+use Rattle.calendar.specs.Banking.{tooOld}
+use Rattle.keys.specs.Parity.{oddParity}
+use Rattle.digest.specs.Mac.{checksumOf}
+use Rattle.digest.specs.declared.Answer.{Answer}
+use Rattle.digest.specs.declared.Answer.the-variants.{NoCharacters, Is}
+use Rattle.customer.specs.declared.Customer.{Customer}
+use Rattle.changeover.specs.Held.{heldKey, goodFor}
+use Rattle.changeover.specs.declared.Key.{Key}
+use Rattle.changeover.specs.declared.Key.the-variants.{Missing, Is as Key·Is}
+use Rattle.acceptance.specs.Stamps.{holdsStamp, liveStamps, onceUsed}
+use Rattle.table.specs.Table.{Table, placeOf, isUnknown}
+use Rattle.table.specs.Named.{named}
+use Rattle.message.specs.Layout.{fieldText}
+use Rattle.message.specs.Rules.{faultOf}
+use Rattle.message.specs.Fields.{receiverOf, senderOf, stampTextOf, stampOf, dateOfStamp, versionOf, transportGenerationOf, workingGenerationOf, digestFieldOf, checksumFieldOf}
+use Rattle.message.specs.declared.Kind.{Kind}
+use Rattle.message.specs.declared.Kind.the-variants.{Esi, Suo, Var}
+use Rattle.message.specs.declared.Fault.{Fault}
+use Rattle.message.specs.declared.Fault.the-variants.{Sound, Found}
+use Rattle.checks.specs.declared.Collected.{Collected}
+use Rattle.checks.specs.declared.Frame.{Frame}
+
+-- a check: its code, the field that it names (0 for none), and whether it fails
+pub record Check : Type 0 where
+  pub code : ℕ
+  pub field : ℕ
+  pub failed : Bool
+
+abbrev pub check : ℕ → Bool → Check
+check c f = record { code = c; field = 0; failed = f }
+
+abbrev pub checkField : ℕ → ℕ → Bool → Check
+checkField c n f = record { code = c; field = n; failed = f }
+
+-- the first failing check's code and field; none fails in a message that is accepted
+unfoldable pub firstFailing : List Check → Fault
+firstFailing [] = Sound
+firstFailing (c ∷ cs) = pick (c .failed) (Found (c .code) (c .field)) (firstFailing cs)
+
+-- ---- what single checks ask
+
+-- data type n, given at opening, is among the customer's
+unfoldable pub typeAllowed : ℕ → ℕ → Bool
+typeAllowed types n = eqb (types / 2 ^ (n - 1) % 2) 1
+
+-- the checksum of a message under a working key is not the one it carries; without a key none is
+unfoldable pub checksumDiffers : Key → List ℕ → Bool
+checksumDiffers Missing m = true
+checksumDiffers (Key·Is key) m = fails (eqb (checksumOf key m) (checksumFieldOf m))
+
+-- the digest is not the one that the VAR carries, or no characters are left
+unfoldable pub digestDiffers : Answer → ℕ → Bool
+digestDiffers NoCharacters d = true
+digestDiffers (Is x) d = fails (eqb x d)
+
+unfoldable pub isMissing : Key → Bool
+isMissing Missing = true
+isMissing (Key·Is k) = false
+
+unfoldable pub keyOr0 : Key → ℕ
+keyOr0 Missing = 0
+keyOr0 (Key·Is k) = k
+
+-- ---- the checks that both orders share
+
+-- a fault of form has that code
+unfoldable pub faultIs : ℕ → Fault → Bool
+faultIs code Sound = false
+faultIs code (Found c f) = eqb c code
+
+unfoldable pub faultField : Fault → ℕ
+faultField Sound = 0
+faultField (Found c f) = f
+
+-- 1032; 1010 lowest field first; 1011 likewise
+unfoldable pub formChecks : Kind → Collected → List Check
+formChecks kind m =
+    let fault : Fault = faultOf kind (m .alone) (m .blank) (m .text) in
+    checkField 1032 (faultField fault) (faultIs 1032 fault) ∷
+    checkField 1010 (faultField fault) (faultIs 1010 fault) ∷
+    checkField 1011 (faultField fault) (faultIs 1011 fault) ∷ []
+
+-- 1012 version below the floor; 1021 receiver not this bank; 1033 sender unknown (qualifiers count); 1035 known but not agreed
+unfoldable pub partyChecks : Table → List ℕ → List Check
+partyChecks t m =
+    check 1012 (ltb (versionOf m) (t .settings .floor)) ∷
+    check 1021 (fails (same (receiverOf m) (t .settings .bank))) ∷
+    check 1033 (isUnknown (placeOf t (senderOf m))) ∷
+    check 1035 (fails (named t (senderOf m) .agreed)) ∷ []
+
+-- 1015 more than five banking days lie after the stamp's date and up to today; 1016 date after today; 1018 the customer holds that stamp
+unfoldable pub stampChecks : Table → Customer → ℕ → List ℕ → List Check
+stampChecks t c today m =
+    check 1015 (tooOld (t .holidays) (dateOfStamp m) today) ∷
+    check 1016 (earlier today (dateOfStamp m)) ∷
+    check 1018 (holdsStamp c (stampOf m)) ∷ []
+
+-- 1034: 64 accepted stamps not too old are held
+unfoldable pub roomChecks : Table → Customer → ℕ → List Check
+roomChecks t c today = check 1034 (leb 64 (length (liveStamps (t .holidays) today c))) ∷ []
+
+-- ---- the ESI
+
+unfoldable pub esiChecks : Table → ℕ → Collected → List Check
+esiChecks t today m =
+    let c : Customer = named t (senderOf (m .text)) in
+    let date : ℕ = dateOfStamp (m .text) in
+    formChecks Esi m ++
+    partyChecks t (m .text) ++
+    stampChecks t c today (m .text) ++
+    (check 1013 (fails (goodFor (c .transport) (transportGenerationOf (m .text)) date)) ∷
+    check 1014 (fails (goodFor (c .working) (workingGenerationOf (m .text)) date)) ∷
+    check 1020 (checksumDiffers (heldKey (c .working) (workingGenerationOf (m .text))) (m .text)) ∷ []) ++
+    roomChecks t c today
+
+-- ---- the frame
+
+-- the same field of SUO and VAR
+abbrev pub unequal : ℕ → List ℕ → List ℕ → Check
+unequal n a b = checkField 1026 n (fails (same a b))
+
+-- first unequal of version, receiver, sender, fields 15, 10, 11, 13, 12
+unfoldable pub pairChecks : List ℕ → List ℕ → List Check
+pairChecks suo var =
+    unequal 30 (fieldText 30 suo) (fieldText 30 var) ∷
+    unequal 80 (receiverOf suo) (receiverOf var) ∷
+    unequal 90 (senderOf suo) (senderOf var) ∷
+    unequal 150 (fieldText 150 suo) (fieldText 150 var) ∷
+    unequal 100 (fieldText 100 suo) (fieldText 100 var) ∷
+    unequal 110 (fieldText 110 suo) (fieldText 110 var) ∷
+    unequal 130 (fieldText 130 suo) (fieldText 130 var) ∷
+    unequal 120 (stampTextOf suo) (stampTextOf var) ∷ []
+
+-- 1013 also where no such key was held at SUO's end; 1017 an accepted batch of this customer, its stamp not yet too old, had the same
+-- one-time key; 1031 its parity; 1019 also where no characters are left
+unfoldable pub keyChecks : Table → Customer → ℕ → Frame → List Check
+keyChecks t c today f =
+    let m : List ℕ = f .suo .text in
+    let date : ℕ = dateOfStamp m in
+    check 1013 (either (isMissing (f .once)) (fails (goodFor (c .transport) (transportGenerationOf m) date))) ∷
+    check 1014 (fails (goodFor (c .working) (workingGenerationOf m) date)) ∷
+    check 1017 (onceUsed (t .holidays) today c (keyOr0 (f .once))) ∷
+    check 1031 (fails (oddParity (keyOr0 (f .once)))) ∷
+    check 1019 (digestDiffers (f .digest) (digestFieldOf (f .var .text))) ∷
+    check 1020 (checksumDiffers (heldKey (c .working) (workingGenerationOf m)) (f .var .text)) ∷ []
+
+unfoldable pub frameChecks : Table → ℕ → ℕ → Frame → List Check
+frameChecks t today dataType f =
+    let c : Customer = named t (senderOf (f .suo .text)) in
+    formChecks Suo (f .suo) ++
+    formChecks Var (f .var) ++
+    partyChecks t (f .suo .text) ++
+    (check 1025 (fails (typeAllowed (c .types) dataType)) ∷ []) ++
+    pairChecks (f .suo .text) (f .var .text) ++
+    stampChecks t c today (f .suo .text) ++
+    keyChecks t c today f ++
+    roomChecks t c today

@@ -1,0 +1,2 @@
+-- What the contracts of `checks` cite.
+pub mod Checks
