@@ -18,7 +18,18 @@ export LENTILPOT_LIB
 cd rust/compare
 cargo test --release --offline --quiet -j 1
 cargo build --release --offline --quiet -j 1
-target/release/compare "$seed" "$cases"
-target/release/compare planted "$seed" "$cases"
-# A file to the byte past the size limit, and several ways past it.
-target/release/compare size
+# The cases in two halves, side by side; then, side by side too, the planted faults, and a file to the byte past the size limit and
+# several ways past it.
+half=$((cases / 2))
+beside=$(mktemp)
+target/release/compare "$seed" "$half" >"$beside" 2>&1 &
+first=$!
+target/release/compare $((seed + half)) $((cases - half)) || { kill "$first"; exit 1; }
+wait "$first" || { cat "$beside" >&2; exit 1; }
+cat "$beside"
+target/release/compare size >"$beside" 2>&1 &
+size=$!
+target/release/compare planted "$seed" "$cases" || { kill "$size"; exit 1; }
+wait "$size" || { cat "$beside" >&2; exit 1; }
+cat "$beside"
+rm -f "$beside"
