@@ -9,7 +9,7 @@ use Rattle.ground.specs.Choice.{either, fails, pick, between}
 use Rattle.calendar.specs.Dates.{realTime}
 use Rattle.table.specs.Table.{withDay}
 use Rattle.table.specs.Decode.{tableOf}
-use Rattle.register.specs.Refusals.{Refusal, refusal, lowest, noTable, badDay}
+use Rattle.conditions.specs.Refusals.{Refusal, refusal, lowest, noTable, badDay}
 use Rattle.register.specs.Calls.{leaves}
 use Rattle.message.specs.declared.Kind.{Kind}
 use Rattle.reply.specs.Reply.{replied, writtenLength}

@@ -6,7 +6,7 @@ use mathlib.Core.List.{List, [], _∷_}
 use mathlib.Core.Bool.{true, false, false≢true}
 use Rattle.ground.specs.Choice.{fails}
 use Rattle.ground.proofs.Choices.{left, right, join}
-use Rattle.register.proofs.Refused.{fails-true}
+use Rattle.conditions.proofs.Refused.{fails-true}
 use Rattle.acceptance.specs.declared.Granted.{Granted}
 use Rattle.table.specs.Table.{Table}
 use Rattle.message.specs.declared.Fault.{Fault}

@@ -10,8 +10,8 @@ use Rattle.ground.specs.Choice.{pick}
 use Rattle.ground.proofs.Choices.{left, right, join}
 use Rattle.text.proofs.Lists.{picked}
 use Rattle.table.specs.Decode.{tableOf}
-use Rattle.register.specs.Refusals.{refusal, lowest}
-use Rattle.register.proofs.Refused.{served, neither}
+use Rattle.conditions.specs.Refusals.{refusal, lowest}
+use Rattle.conditions.proofs.Refused.{served, neither}
 use Rattle.answers.specs.declared.Opening.{Opening}
 use Rattle.session.specs.Events.{Turn, placed, nothing}
 use Rattle.session.specs.Machine.{lastEnded}

@@ -13,9 +13,9 @@ use Rattle.table.specs.Table.{Table}
 use Rattle.table.specs.Written.{WrittenAs}
 use Rattle.table.specs.Decode.{tableOf, isTable}
 use Rattle.table.proofs.Decode.{written-is, is-written}
-use Rattle.register.specs.Refusals.{Refusal, lowest, noTable}
+use Rattle.conditions.specs.Refusals.{Refusal, lowest, noTable}
 use Rattle.register.specs.Calls.{settingUpAnswer, addingAnswer, enteringAnswer, orderingAnswer}
-use Rattle.register.proofs.Refused.{fails-true}
+use Rattle.conditions.proofs.Refused.{fails-true}
 use Rattle.register.proofs.Laws.{rises, lowest-is, lowest-holds, setting-up-rises, adding-rises, entering-rises, ordering-rises}
 use Rattle.answers.specs.declared.Opening.{Opening}
 use Rattle.session.specs.Events.{fileEnded}

@@ -13,7 +13,7 @@ use Rattle.message.specs.Fields.{receiverOf}
 use Rattle.table.specs.Table.{Table, placeOf, isUnknown, customerIn, withDay}
 use Rattle.table.specs.Written.{WrittenAs, written}
 use Rattle.table.specs.Decode.{tableOf, isTable}
-use Rattle.register.specs.Refusals.{Refusal, refusal, noTable}
+use Rattle.conditions.specs.Refusals.{Refusal, refusal, noTable}
 use Rattle.register.specs.Calls.{settingUpRefusals, addingRefusals, enteringRefusals, orderingRefusals}
 use Rattle.register.specs.declared.Setting.{Setting}
 use Rattle.checks.specs.Checks.{Check, esiChecks, frameChecks}

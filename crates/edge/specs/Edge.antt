@@ -6,8 +6,8 @@ use mathlib.Core.List.{List}
 use lib.Dec.{eqb, ltb}
 use lib.ListN.{length, replicate}
 use Rattle.ground.specs.Choice.{both, pick, one}
-use Rattle.register.specs.declared.Length.{Length}
-use Rattle.register.specs.declared.Length.the-variants.{Given, LeftOut}
+use Rattle.conditions.specs.declared.Length.{Length}
+use Rattle.conditions.specs.declared.Length.the-variants.{Given, LeftOut}
 use Rattle.register.specs.declared.Setting.{Setting}
 use Rattle.register.specs.declared.Adding.{Adding}
 use Rattle.register.specs.declared.Entering.{Entering}

@@ -44,13 +44,13 @@ fn types_by(types: u32, agreed: u32, leave: u32, given: u32) -> u32
     types
 }
 
-fn length_by(given: u32, n: u32) -> register::Length
+fn length_by(given: u32, n: u32) -> conditions::Length
     ensures { λ r. ⌜ r ≡ lengthBy given n ⌝ }
 {
     if given == 0 {
-        return register::Length::LeftOut;
+        return conditions::Length::LeftOut;
     }
-    register::Length::Given(n)
+    conditions::Length::Given(n)
 }
 
 // How many bytes a session takes.

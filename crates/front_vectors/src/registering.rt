@@ -46,14 +46,14 @@ pub fn set_up(t: &mut [u8], line: &[u8]) -> u32 {
     set_up_with(t, s, days, h.count)
 }
 
-fn length_at(line: &[u8], number: usize) -> register::Length {
+fn length_at(line: &[u8], number: usize) -> conditions::Length {
     let from = place_of(line, number);
     if from < line.len() {
         if line[from] == b'-' {
-            return register::Length::LeftOut;
+            return conditions::Length::LeftOut;
         }
     }
-    register::Length::Given(small_at(line, number))
+    conditions::Length::Given(small_at(line, number))
 }
 
 // add DATE WHO P1 P2 CHECK GENERATION TYPES AGREED LEAVE LENGTH

@@ -10,7 +10,7 @@ use borrow.Author.Tests.{eqb-true}
 use Rattle.ground.specs.Choice.{both, fails, pick}
 use Rattle.ground.specs.Lists.{all, member}
 use Rattle.ground.proofs.Choices.{left, right, either-cases}
-use Rattle.register.proofs.Refused.{fails-true}
+use Rattle.conditions.proofs.Refused.{fails-true}
 use Rattle.acceptance.proofs.Grants.{codes as granted, grant-code}
 use Rattle.table.specs.Table.{Table}
 use Rattle.message.specs.declared.Fault.the-variants.{Found}

@@ -12,8 +12,8 @@ use Rattle.ground.specs.Choice.{pick}
 use Rattle.ground.proofs.Choices.{picks}
 use Rattle.text.proofs.Lists.{picked}
 use Rattle.table.specs.Decode.{tableOf, isTable}
-use Rattle.register.specs.Refusals.{lowest, noTable}
-use Rattle.register.proofs.Refused.{served, neither, fails-false}
+use Rattle.conditions.specs.Refusals.{lowest, noTable}
+use Rattle.conditions.proofs.Refused.{served, neither, fails-false}
 use Rattle.message.specs.Fields.{receiverOf, senderOf, stampTextOf}
 use Rattle.session.specs.Events.{Turn, silent, fileEnded}
 use Rattle.session.specs.Machine.{scanned, lastEnded}

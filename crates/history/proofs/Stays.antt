@@ -13,9 +13,9 @@ use Rattle.table.specs.Decode.{tableOf, isTable}
 use Rattle.table.specs.declared.Found.the-variants.{At}
 use Rattle.table.proofs.Sound.{sound-day}
 use Rattle.table.proofs.Decode.{is-written, rewritten-is, written-is}
-use Rattle.register.specs.Refusals.{noTable, badDay}
+use Rattle.conditions.specs.Refusals.{noTable, badDay}
 use Rattle.register.specs.Calls.{settingUpLeaves, addingLeaves, enteringLeaves, orderingLeaves}
-use Rattle.register.proofs.Refused.{served, neither, fails-false}
+use Rattle.conditions.proofs.Refused.{served, neither, fails-false}
 use Rattle.register.proofs.Rewritten.{served-leaves}
 use Rattle.register.proofs.Laws.{Kept, refused-leaves, setting-up-table, adding-table, entering-table, ordering-table}
 use Rattle.message.specs.Fields.{receiverOf, senderOf}

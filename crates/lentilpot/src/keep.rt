@@ -147,9 +147,9 @@ fn add_words(table: &[u8]) {
     let today = e.today;
     let who = e.who;
     let length = if os::arg_count() < 14 {
-        register::Length::LeftOut
+        conditions::Length::LeftOut
     } else {
-        register::Length::Given(days)
+        conditions::Length::Given(days)
     };
     let a = register::Adding {
         today,

@@ -13,8 +13,8 @@ use Rattle.calendar.specs.Dates.{realDate}
 use Rattle.table.specs.Decode.{isTable, tableOf}
 use Rattle.table.proofs.Sound
 use Rattle.table.proofs.Decode
-use Rattle.register.specs.Refusals.{refusal, lowest, noTable}
-use Rattle.register.proofs.Refused.{lowest-next, none-left, fails-false, neither, either-none, agree}
+use Rattle.conditions.specs.Refusals.{refusal, lowest, noTable}
+use Rattle.conditions.proofs.Refused.{lowest-next, none-left, fails-false, neither, either-none, agree}
 use Rattle.answers.specs.declared.Opening.{Opening}
 use Rattle.session.specs.Events.{Turn, fileEnded}
 use Rattle.session.specs.Machine.{scanned, lastEnded}

@@ -15,8 +15,8 @@ use Rattle.table.specs.Written.{written}
 use Rattle.table.specs.Decode.{isTable, tableOf}
 use Rattle.table.proofs.Sound
 use Rattle.table.proofs.Decode
-use Rattle.register.specs.Refusals.{noTable, badDay}
-use Rattle.register.proofs.Refused.{served, fails-false, neither, either-none}
+use Rattle.conditions.specs.Refusals.{noTable, badDay}
+use Rattle.conditions.proofs.Refused.{served, fails-false, neither, either-none}
 use Rattle.register.proofs.Rewritten.{served-leaves}
 use Rattle.checks.specs.Checks.{keyOr0}
 use Rattle.answers.specs.declared.Opening.{Opening}

@@ -9,7 +9,7 @@ use Rattle.ground.specs.Choice.{pick}
 use Rattle.ground.proofs.Choices.{picks, skips}
 use Rattle.text.proofs.Lists.{picked}
 use Rattle.table.specs.Decode.{tableOf}
-use Rattle.register.proofs.Refused.{either-none}
+use Rattle.conditions.proofs.Refused.{either-none}
 use Rattle.message.specs.declared.Kind.{Kind}
 use Rattle.message.specs.declared.Kind.the-variants.{Esi, Suo, Var}
 use Rattle.checks.specs.declared.Collected.{Collected}

@@ -12,8 +12,8 @@ use Rattle.calendar.specs.Dates.{realDate, realTime, earlier}
 use Rattle.table.specs.Decode.{isTable, tableOf}
 use Rattle.table.specs.Stored.{dayStored}
 use Rattle.table.proofs.Stores.{day-is}
-use Rattle.register.specs.Refusals.{lowest, noTable, badDay}
-use Rattle.register.proofs.Refused.{lowest-first, lowest-next, none-left, served, fails-false, either-none}
+use Rattle.conditions.specs.Refusals.{lowest, noTable, badDay}
+use Rattle.conditions.proofs.Refused.{lowest-first, lowest-next, none-left, served, fails-false, either-none}
 use Rattle.register.proofs.Rewritten.{served-leaves, refused-as}
 use Rattle.answers.specs.declared.Opening.{Opening}
 use Rattle.session.specs.Machine.{opened, unopened}

@@ -11,8 +11,8 @@ use lib.ListN.{length}
 use Rattle.ground.specs.Choice.{pick, fails}
 use Rattle.ground.proofs.Choices.{picks, skips}
 use Rattle.table.specs.Decode.{isTable}
-use Rattle.register.specs.Refusals.{Refusal, refusal, lowest, noTable}
-use Rattle.register.proofs.Refused.{lowest-first, lowest-next, none-left, served, fails-false}
+use Rattle.conditions.specs.Refusals.{Refusal, refusal, lowest, noTable}
+use Rattle.conditions.proofs.Refused.{lowest-first, lowest-next, none-left, served, fails-false}
 use Rattle.reader.specs.Lent.{lentRefusals}
 
 -- a refusal among the first stands before those that follow

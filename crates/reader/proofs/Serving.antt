@@ -10,7 +10,7 @@ use lib.Dec.{eqb}
 use Rattle.ground.specs.Choice.{pick}
 use Rattle.ground.proofs.Choices.{picks, skips}
 use Rattle.table.specs.Decode.{tableOf}
-use Rattle.register.specs.Refusals.{lowest}
+use Rattle.conditions.specs.Refusals.{lowest}
 use Rattle.session.specs.Events.{Turn, fileEnded}
 use Rattle.session.specs.Machine.{Scan, scanned, lastEnded}
 use Rattle.session.specs.Ranges.{isClosed, readRefused, endRefused}

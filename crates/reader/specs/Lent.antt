@@ -4,7 +4,7 @@ use Prim.Native.Nat.{ℕ}
 use mathlib.Core.List.{List, [], _∷_}
 use lib.Dec.{ltb}
 use lib.ListN.{length}
-use Rattle.register.specs.Refusals.{Refusal, refusal, noTable}
+use Rattle.conditions.specs.Refusals.{Refusal, refusal, noTable}
 
 unfoldable pub lentRefusals : List ℕ → List ℕ → List Refusal
 lentRefusals w room = refusal 1 (ltb (length room) 317) ∷ refusal 2 (noTable w) ∷ []

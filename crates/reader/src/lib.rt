@@ -1,7 +1,7 @@
 // The three calls that read a file: open, read, end.
 ghost use mathlib.Core.Path.{_≡_};
 ghost use mathlib.Core.Bool.{true, false};
-ghost use Rattle.register.specs.Refusals.{lowest};
+ghost use Rattle.conditions.specs.Refusals.{lowest};
 ghost use Rattle.calls.specs.Reading.{openingAnswer, openingGives, openingLeaves, isDue, awaits, finishes, roomAfter, lengthOf, readDone, endDone};
 ghost use Rattle.reader.specs.Lent.{lentRefusals};
 

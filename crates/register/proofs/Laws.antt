@@ -22,13 +22,13 @@ use Rattle.table.specs.Named.{replacedAt, withNamed}
 use Rattle.table.specs.Written.{WrittenAs}
 use Rattle.table.specs.Decode.{tableOf, isTable}
 use Rattle.table.proofs.Places.{others-stay}
-use Rattle.register.specs.Refusals.{Refusal, refusal, lowest}
+use Rattle.conditions.specs.Refusals.{Refusal, refusal, lowest}
 use Rattle.register.specs.Calls.{leaves, newCustomer, newTable, addedTo, enteredIn, orderedIn, settingUpRefusals, settingUpAnswer, settingUpLeaves, addingRefusals, addingAnswer, addingLeaves, enteringRefusals, enteringAnswer, enteringLeaves, orderingRefusals, orderingAnswer, orderingLeaves}
 use Rattle.register.specs.declared.Setting.{Setting}
 use Rattle.register.specs.declared.Adding.{Adding}
 use Rattle.register.specs.declared.Entering.{Entering}
 use Rattle.register.specs.declared.Ordering.{Ordering}
-use Rattle.register.proofs.Refused.{lowest-first, lowest-next}
+use Rattle.conditions.proofs.Refused.{lowest-first, lowest-next}
 use Rattle.register.proofs.Rewritten
 use Rattle.register.proofs.Served
 

@@ -33,15 +33,15 @@ use Rattle.table.proofs.Sound
 use Rattle.table.proofs.Encode
 use Rattle.table.proofs.Decode
 use Rattle.table.proofs.Stores
-use Rattle.register.specs.Refusals.{Refusal, refusal, lowest, noTable, badDay, tableFull, alreadyThere, noSuchCustomer, evenPart, checkDiffers, notNext, badLength}
+use Rattle.conditions.specs.Refusals.{Refusal, refusal, lowest, noTable, badDay, tableFull, alreadyThere, noSuchCustomer, evenPart, checkDiffers, notNext, badLength}
 use Rattle.register.specs.Calls.{leaves, lengthOf, newCustomer, newTable, addedTo, enteredIn, orderedIn, settingUpRefusals, settingUpAnswer, settingUpLeaves, addingRefusals, addingAnswer, addingLeaves, enteringRefusals, enteringAnswer, enteringLeaves, orderingRefusals, orderingAnswer, orderingLeaves}
-use Rattle.register.specs.declared.Length.{Length}
-use Rattle.register.specs.declared.Length.the-variants.{Given, LeftOut}
+use Rattle.conditions.specs.declared.Length.{Length}
+use Rattle.conditions.specs.declared.Length.the-variants.{Given, LeftOut}
 use Rattle.register.specs.declared.Setting.{Setting}
 use Rattle.register.specs.declared.Adding.{Adding}
 use Rattle.register.specs.declared.Entering.{Entering}
 use Rattle.register.specs.declared.Ordering.{Ordering}
-use Rattle.register.proofs.Refused.{served, neither, fails-false, Open, opened}
+use Rattle.conditions.proofs.Refused.{served, neither, fails-false, Open, opened}
 use Rattle.register.proofs.Rewritten
 use Rattle.register.proofs.Rewritten.{served-leaves, day-after, seed-after}
 use Rattle.register.proofs.Customers

@@ -20,9 +20,9 @@ use Rattle.table.specs.Table.{Table, withAdded, withDay, withSeed, rising}
 use Rattle.table.specs.Named.{named, withNamed}
 use Rattle.table.specs.Written.{tableSize, written}
 use Rattle.table.specs.Decode.{tableOf}
-use Rattle.register.specs.Refusals.{Refusal, refusal, lowest, noTable, badDay, tableFull, alreadyThere, noSuchCustomer, evenPart, checkDiffers, notNext, badLength}
-use Rattle.register.specs.declared.Length.{Length}
-use Rattle.register.specs.declared.Length.the-variants.{Given, LeftOut}
+use Rattle.conditions.specs.Refusals.{Refusal, refusal, lowest, noTable, badDay, tableFull, alreadyThere, noSuchCustomer, evenPart, checkDiffers, notNext, badLength}
+use Rattle.conditions.specs.declared.Length.{Length}
+use Rattle.conditions.specs.declared.Length.the-variants.{Given, LeftOut}
 use Rattle.register.specs.declared.Setting.{Setting}
 use Rattle.register.specs.declared.Adding.{Adding}
 use Rattle.register.specs.declared.Entering.{Entering}

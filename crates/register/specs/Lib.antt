@@ -1,3 +1,2 @@
 -- What the contracts of `register` cite.
-pub mod Refusals
 pub mod Calls

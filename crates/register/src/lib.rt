@@ -1,19 +1,6 @@
 // The four calls that keep a table: set up, add a customer, enter a transport key, order a new working key.
 ghost use mathlib.Core.Path.{_≡_};
-ghost use lib.Dec.{eqb};
-ghost use Rattle.ground.specs.Choice.{either};
-ghost use Rattle.ground.specs.Lists.{all};
-ghost use Rattle.calendar.specs.Dates.{realDate};
-ghost use Rattle.table.specs.Table.{rising};
-ghost use Rattle.table.specs.Decode.{tableOf};
-ghost use Rattle.register.specs.Refusals.{badDay, tableFull, alreadyThere, evenPart, checkDiffers, notNext, badLength};
 ghost use Rattle.register.specs.Calls.{lengthOf, newCustomer, settingUpAnswer, settingUpLeaves, addingAnswer, addingLeaves, enteringAnswer, enteringLeaves, orderingAnswer, orderingLeaves};
-
-// A changeover length: given, or left out.
-pub enum Length {
-    Given(u32),
-    LeftOut,
-}
 
 pub struct Setting {
     pub bank: [u8; 25],
@@ -33,7 +20,7 @@ pub struct Adding {
     pub types: u32,
     pub agreed: bool,
     pub leave: bool,
-    pub length: Length,
+    pub length: conditions::Length,
 }
 
 pub struct Entering {
@@ -51,127 +38,13 @@ pub struct Ordering {
     pub clock: u64,
 }
 
-// ---- the conditions
-
-// Whether today is no real date, or before the table's day.
-fn is_bad_day(t: &[u8], today: calendar::Date) -> bool
-    ensures { λ r. ⌜ r ≡ badDay (tableOf (now (t .entry))) (today .yymmdd) ⌝ }
-{
-    if !today.is_real() {
-        return true;
-    }
-    let day = table::day(t);
-    today.before(day)
-}
-
-// Whether the table has no room for one more customer.
-fn is_full(t: &[u8]) -> bool
-    ensures { λ r. ⌜ r ≡ tableFull (tableOf (now (t .entry))) ⌝ }
-{
-    32 <= table::customer_count(t)
-}
-
-// Whether a customer has that identity and qualifier.
-fn is_there(t: &[u8], who: [u8; 25]) -> bool
-    ensures { λ r. ⌜ r ≡ alreadyThere (tableOf (now (t .entry))) who ⌝ }
-{
-    let found = table::find(t, who);
-    match found {
-        table::Found::At(_) => true,
-        table::Found::Unknown => false,
-    }
-}
-
-// Whether the parity of a key part is even.
-fn is_even_part(part1: u64, part2: u64) -> bool
-    ensures { λ r. ⌜ r ≡ evenPart part1 part2 ⌝ }
-{
-    if !keys::has_odd_parity(part1) {
-        return true;
-    }
-    !keys::has_odd_parity(part2)
-}
-
-// Whether the parts have another check value.
-fn is_other_check(part1: u64, part2: u64, check: u64) -> bool
-    ensures { λ r. ⌜ r ≡ checkDiffers part1 part2 check ⌝ }
-{
-    let value = keys::check_value(keys::combine(part1, part2));
-    value != check
-}
-
-// Whether a generation isn't the one that follows the current one.
-fn is_not_next(current: u32, new: u32) -> bool
-    ensures { λ r. ⌜ r ≡ notNext current new ⌝ }
-{
-    keys::next_generation(current) != new
-}
-
-// Whether a length is given and out of its limits.
-fn is_bad_length(l: Length) -> bool
-    ensures { λ r. ⌜ r ≡ badLength l ⌝ }
-{
-    match l {
-        Length::Given(n) => {
-            if n < 1 {
-                return true;
-            }
-            60 < n
-        }
-        Length::LeftOut => false,
-    }
-}
-
-// Whether a version floor is one of the two.
-fn is_floor(floor: u32) -> bool
-    ensures { λ r. ⌜ r ≡ either (eqb floor 110) (eqb floor 120) ⌝ }
-{
-    if floor == 110 {
-        return true;
-    }
-    floor == 120
-}
-
-// Whether each date is real.
-fn are_real(dates: &[u32]) -> bool
-    ensures { λ r. ⌜ r ≡ all realDate (now (dates .entry)) ⌝ }
-{
-    let mut i = 0;
-    while i < dates.len() {
-        let d = calendar::Date { yymmdd: dates[i] };
-        if !d.is_real() {
-            return false;
-        }
-        i += 1;
-    }
-    true
-}
-
-// Whether the dates rise strictly.
-fn are_rising(dates: &[u32]) -> bool
-    ensures { λ r. ⌜ r ≡ rising (now (dates .entry)) ⌝ }
-{
-    let mut i = 0;
-    while i + 1 < dates.len() {
-        let low = calendar::Date { yymmdd: dates[i] };
-        let high = calendar::Date {
-            yymmdd: dates[i + 1],
-        };
-        if !low.before(high) {
-            return false;
-        }
-        i += 1;
-    }
-    true
-}
-
 // ---- set up a table
 
 // The number of the refusal, 0 for none.
 fn setting_up_refusal(t: &[u8], s: Setting, holidays: &[u32]) -> u32
     ensures { λ r. ⌜ r ≡ settingUpAnswer (now (t .entry)) s (now (holidays .entry)) ⌝ }
 {
-    if !are_real(holidays) {
+    if !conditions::are_real(holidays) {
         return 4;
     }
     if t.len() != 49152 {
@@ -185,13 +58,13 @@ fn setting_up_refusal(t: &[u8], s: Setting, holidays: &[u32]) -> u32
     if !customer::is_sound_name(&software) {
         return 11;
     }
-    if !is_floor(s.floor) {
+    if !conditions::is_floor(s.floor) {
         return 11;
     }
     if 200 < holidays.len() {
         return 11;
     }
-    if !are_rising(holidays) {
+    if !conditions::are_rising(holidays) {
         return 11;
     }
     0
@@ -232,20 +105,20 @@ fn adding_refusal(t: &[u8], a: Adding) -> u32
         return 2;
     }
     let today = a.today;
-    if is_bad_day(t, today) {
+    if conditions::is_bad_day(t, today) {
         return 4;
     }
-    if is_full(t) {
+    if conditions::is_full(t) {
         return 5;
     }
     let who = a.who;
-    if is_there(t, who) {
+    if conditions::is_there(t, who) {
         return 6;
     }
-    if is_even_part(a.part1, a.part2) {
+    if conditions::is_even_part(a.part1, a.part2) {
         return 8;
     }
-    if is_other_check(a.part1, a.part2, a.check) {
+    if conditions::is_other_check(a.part1, a.part2, a.check) {
         return 9;
     }
     if !customer::is_sound_who(&who) {
@@ -258,19 +131,19 @@ fn adding_refusal(t: &[u8], a: Adding) -> u32
         return 11;
     }
     let length = a.length;
-    if is_bad_length(length) {
+    if conditions::is_bad_length(length) {
         return 11;
     }
     0
 }
 
 // The days of a changeover.
-fn days_of(l: Length) -> u32
+fn days_of(l: conditions::Length) -> u32
     ensures { λ r. ⌜ r ≡ lengthOf l ⌝ }
 {
     match l {
-        Length::Given(n) => n,
-        Length::LeftOut => 30,
+        conditions::Length::Given(n) => n,
+        conditions::Length::LeftOut => 30,
     }
 }
 
@@ -332,22 +205,22 @@ fn entering_refusal(t: &[u8], e: Entering) -> u32
         return 2;
     }
     let today = e.today;
-    if is_bad_day(t, today) {
+    if conditions::is_bad_day(t, today) {
         return 4;
     }
     let who = e.who;
     let table::Found::At(i) = table::find(t, who) else {
         return 7;
     };
-    if is_even_part(e.part1, e.part2) {
+    if conditions::is_even_part(e.part1, e.part2) {
         return 8;
     }
-    if is_other_check(e.part1, e.part2, e.check) {
+    if conditions::is_other_check(e.part1, e.part2, e.check) {
         return 9;
     }
     let c = table::load(t, i);
     let k = c.transport;
-    if is_not_next(k.generation, e.generation) {
+    if conditions::is_not_next(k.generation, e.generation) {
         return 10;
     }
     let old = k.previous;
@@ -388,7 +261,7 @@ fn ordering_refusal(t: &[u8], o: Ordering) -> u32
         return 2;
     }
     let today = o.today;
-    if is_bad_day(t, today) {
+    if conditions::is_bad_day(t, today) {
         return 4;
     }
     let who = o.who;

@@ -4,9 +4,9 @@ use Prim.Native.Nat.{ℕ}
 use lib.ListN.{drop}
 use borrow.Author.Tests.{lt-ltb, le-ltb, le-leb, lt-leb}
 use Rattle.ground.proofs.Choices.{either-left, either-right}
-use Rattle.register.specs.Refusals.{lowest, noTable}
+use Rattle.conditions.specs.Refusals.{lowest, noTable}
 use Rattle.register.specs.Calls.{addingRefusals, addingAnswer}
-use Rattle.register.proofs.Refused.{lowest-first, lowest-next, none-left, said, unsaid, either-none}
+use Rattle.conditions.proofs.Refused.{lowest-first, lowest-next, none-left, said, unsaid, either-none}
 use borrow.Author.Needs.{needs}
 use Rattle.register.proofs.adding_refusal.Statement.{statement}
 use Rattle.register.proofs.adding_refusal.Tie as tie

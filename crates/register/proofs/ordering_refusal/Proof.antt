@@ -4,9 +4,9 @@ use Prim.Native.Nat.{ℕ}
 use lib.ListN.{drop}
 use Rattle.customer.specs.declared.Customer.{Customer}
 use Rattle.changeover.specs.Held.{changing}
-use Rattle.register.specs.Refusals.{lowest, noTable}
+use Rattle.conditions.specs.Refusals.{lowest, noTable}
 use Rattle.register.specs.Calls.{orderingRefusals, orderingAnswer}
-use Rattle.register.proofs.Refused.{lowest-first, lowest-next, none-left, said, unsaid, not-there, is-there}
+use Rattle.conditions.proofs.Refused.{lowest-first, lowest-next, none-left, said, unsaid, not-there, is-there}
 use Rattle.register.proofs.Rewritten.{named-at}
 use borrow.Author.Needs.{needs}
 use Rattle.register.proofs.ordering_refusal.Statement.{statement}

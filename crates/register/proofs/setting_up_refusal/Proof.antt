@@ -4,9 +4,9 @@ use Prim.Native.Nat.{ℕ}
 use lib.ListN.{drop}
 use borrow.Author.Tests.{lt-ltb, le-ltb}
 use Rattle.ground.proofs.Choices.{either-left, either-right}
-use Rattle.register.specs.Refusals.{lowest}
+use Rattle.conditions.specs.Refusals.{lowest}
 use Rattle.register.specs.Calls.{settingUpRefusals, settingUpAnswer}
-use Rattle.register.proofs.Refused.{lowest-first, lowest-next, none-left, unsaid, differ, agree, either-none}
+use Rattle.conditions.proofs.Refused.{lowest-first, lowest-next, none-left, unsaid, differ, agree, either-none}
 use borrow.Author.Needs.{needs}
 use Rattle.register.proofs.setting_up_refusal.Statement.{statement}
 use Rattle.register.proofs.setting_up_refusal.Tie as tie

@@ -16,7 +16,7 @@ use Rattle.table.specs.Table.{Table, placeOf, isUnknown}
 use Rattle.table.specs.declared.Found.{Found}
 use Rattle.table.specs.declared.Found.the-variants.{At, Unknown}
 use Rattle.table.specs.Decode.{tableOf, isTable}
-use Rattle.register.specs.Refusals.{Refusal, refusal, lowest, noTable, badDay, noSuchCustomer}
+use Rattle.conditions.specs.Refusals.{Refusal, refusal, lowest, noTable, badDay, noSuchCustomer}
 
 -- ---- the walk
 

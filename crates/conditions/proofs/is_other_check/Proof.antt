@@ -4,10 +4,10 @@ use Prim.Native.Nat.{ℕ}
 use lib.Dec.{eqb}
 use Rattle.keys.specs.Keys.{checkValue}
 use Rattle.customer.proofs.Chain.{turned}
-use Rattle.register.specs.Refusals.{checkDiffers}
+use Rattle.conditions.specs.Refusals.{checkDiffers}
 use borrow.Author.Needs.{needs}
-use Rattle.register.proofs.is_other_check.Statement.{statement}
-use Rattle.register.proofs.is_other_check.Tie as tie
+use Rattle.conditions.proofs.is_other_check.Statement.{statement}
+use Rattle.conditions.proofs.is_other_check.Tie as tie
 
 combine-requires : tie.Need-combine-requires
 combine-requires c κs = search needs

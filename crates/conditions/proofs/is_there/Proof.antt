@@ -4,10 +4,10 @@ use mathlib.Core.Bool.{Bool, true, false}
 use Rattle.ground.specs.Choice.{fails}
 use Rattle.table.specs.Table.{isUnknown}
 use Rattle.table.specs.declared.Found.{Found}
-use Rattle.register.specs.Refusals.{alreadyThere}
+use Rattle.conditions.specs.Refusals.{alreadyThere}
 use borrow.Author.Needs.{needs}
-use Rattle.register.proofs.is_there.Statement.{statement}
-use Rattle.register.proofs.is_there.Tie as tie
+use Rattle.conditions.proofs.is_there.Statement.{statement}
+use Rattle.conditions.proofs.is_there.Tie as tie
 
 find-requires : tie.Need-find-requires
 find-requires c κs = search needs

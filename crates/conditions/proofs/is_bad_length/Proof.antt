@@ -1,9 +1,9 @@
 -- A length that is given lies below, above or within the limits; none is never out of them.
-use Rattle.register.specs.Refusals.{badLength}
-use Rattle.register.proofs.Refused.{too-short, too-long}
+use Rattle.conditions.specs.Refusals.{badLength}
+use Rattle.conditions.proofs.Refused.{too-short, too-long}
 use borrow.Author.Needs.{needs}
-use Rattle.register.proofs.is_bad_length.Statement.{statement}
-use Rattle.register.proofs.is_bad_length.Tie as tie
+use Rattle.conditions.proofs.is_bad_length.Statement.{statement}
+use Rattle.conditions.proofs.is_bad_length.Tie as tie
 
 enum-known-l : tie.Need-enum-known-l
 enum-known-l c = search needs

@@ -5,10 +5,10 @@ use native.Mathlib.Omega.{arith}
 use lib.ListN.{length, drop}
 use Rattle.table.specs.Table.{rising}
 use Rattle.customer.proofs.Chain.{refused, passed}
-use Rattle.register.proofs.Dates.{rising-stop, rising-more, rising-done}
+use Rattle.conditions.proofs.Dates.{rising-stop, rising-more, rising-done}
 use borrow.Author.Needs.{needs}
-use Rattle.register.proofs.are_rising.Statement.{statement}
-use Rattle.register.proofs.are_rising.Tie as tie
+use Rattle.conditions.proofs.are_rising.Statement.{statement}
+use Rattle.conditions.proofs.are_rising.Tie as tie
 
 abbrev Inv-loop : tie.InvT-loop
 Inv-loop dates i₀ i = (i ≤ length dates) × (rising dates ≡ rising (drop i dates))

@@ -6,10 +6,10 @@ use lib.ListN.{length, drop}
 use Rattle.ground.specs.Lists.{all}
 use Rattle.calendar.specs.Dates.{realDate}
 use Rattle.customer.proofs.Chain.{refused, passed}
-use Rattle.register.proofs.Dates.{all-stop, all-more, all-done}
+use Rattle.conditions.proofs.Dates.{all-stop, all-more, all-done}
 use borrow.Author.Needs.{needs}
-use Rattle.register.proofs.are_real.Statement.{statement}
-use Rattle.register.proofs.are_real.Tie as tie
+use Rattle.conditions.proofs.are_real.Statement.{statement}
+use Rattle.conditions.proofs.are_real.Tie as tie
 
 abbrev Inv-loop : tie.InvT-loop
 Inv-loop dates i₀ i = (i ≤ length dates) × (all realDate dates ≡ all realDate (drop i dates))

@@ -11,8 +11,8 @@ use Rattle.keys.specs.Parity.{oddParity}
 use Rattle.keys.specs.Keys.{combined, checkValue, nextGeneration}
 use Rattle.table.specs.Table.{Table, placeOf, isUnknown}
 use Rattle.table.specs.Decode.{tableOf, isTable}
-use Rattle.register.specs.declared.Length.{Length}
-use Rattle.register.specs.declared.Length.the-variants.{Given, LeftOut}
+use Rattle.conditions.specs.declared.Length.{Length}
+use Rattle.conditions.specs.declared.Length.the-variants.{Given, LeftOut}
 
 -- a refusal's number, and whether its condition holds
 pub record Refusal : Type 0 where

@@ -1,10 +1,10 @@
 -- The first of the two decides, and past it the second.
 use mathlib.Core.Path.{refl}
 use borrow.Author.Tests.{eq-eqb, ne-eqb}
-use Rattle.register.proofs.Refused.{holds, rests}
+use Rattle.conditions.proofs.Refused.{holds, rests}
 use borrow.Author.Needs.{needs}
-use Rattle.register.proofs.is_floor.Statement.{statement}
-use Rattle.register.proofs.is_floor.Tie as tie
+use Rattle.conditions.proofs.is_floor.Statement.{statement}
+use Rattle.conditions.proofs.is_floor.Tie as tie
 
 returns : tie.Need-returns
 returns c = holds _ _ (eq-eqb _ _ (c .if1 .taken))

@@ -1,10 +1,10 @@
 -- The first part decides where it is even, and past that the second.
 use Rattle.customer.proofs.Chain.{turned}
-use Rattle.register.specs.Refusals.{evenPart}
-use Rattle.register.proofs.Refused.{holds, rests, unsaid}
+use Rattle.conditions.specs.Refusals.{evenPart}
+use Rattle.conditions.proofs.Refused.{holds, rests, unsaid}
 use borrow.Author.Needs.{needs}
-use Rattle.register.proofs.is_even_part.Statement.{statement}
-use Rattle.register.proofs.is_even_part.Tie as tie
+use Rattle.conditions.proofs.is_even_part.Statement.{statement}
+use Rattle.conditions.proofs.is_even_part.Tie as tie
 
 has-odd-parity-requires : tie.Need-has-odd-parity-requires
 has-odd-parity-requires c κs = search needs

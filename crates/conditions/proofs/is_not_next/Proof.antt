@@ -3,10 +3,10 @@ use mathlib.Core.Path.{ap}
 use Prim.Native.Nat.{ℕ}
 use lib.Dec.{eqb}
 use Rattle.customer.proofs.Chain.{turned}
-use Rattle.register.specs.Refusals.{notNext}
+use Rattle.conditions.specs.Refusals.{notNext}
 use borrow.Author.Needs.{needs}
-use Rattle.register.proofs.is_not_next.Statement.{statement}
-use Rattle.register.proofs.is_not_next.Tie as tie
+use Rattle.conditions.proofs.is_not_next.Statement.{statement}
+use Rattle.conditions.proofs.is_not_next.Tie as tie
 
 next-generation-requires : tie.Need-next-generation-requires
 next-generation-requires c κs = search needs

@@ -1,10 +1,10 @@
 -- The customers are counted.
 use mathlib.Core.Path.{ap}
 use lib.Dec.{leb}
-use Rattle.register.specs.Refusals.{tableFull}
+use Rattle.conditions.specs.Refusals.{tableFull}
 use borrow.Author.Needs.{needs}
-use Rattle.register.proofs.is_full.Statement.{statement}
-use Rattle.register.proofs.is_full.Tie as tie
+use Rattle.conditions.proofs.is_full.Statement.{statement}
+use Rattle.conditions.proofs.is_full.Tie as tie
 
 customer-count-requires : tie.Need-customer-count-requires
 customer-count-requires c κs = search needs

@@ -1,11 +1,11 @@
 -- A date that isn't real decides, and past that the table's day.
 use mathlib.Core.Path.{ap, _∙_}
 use Rattle.calendar.specs.Dates.{earlier}
-use Rattle.register.specs.Refusals.{badDay}
-use Rattle.register.proofs.Refused.{holds, rests, unsaid}
+use Rattle.conditions.specs.Refusals.{badDay}
+use Rattle.conditions.proofs.Refused.{holds, rests, unsaid}
 use borrow.Author.Needs.{needs}
-use Rattle.register.proofs.is_bad_day.Statement.{statement}
-use Rattle.register.proofs.is_bad_day.Tie as tie
+use Rattle.conditions.proofs.is_bad_day.Statement.{statement}
+use Rattle.conditions.proofs.is_bad_day.Tie as tie
 
 is-real-requires : tie.Need-is-real-requires
 is-real-requires c κs = search needs

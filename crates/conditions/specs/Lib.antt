@@ -1,0 +1,2 @@
+-- What the contracts of `conditions` cite.
+pub mod Refusals
