@@ -14,7 +14,7 @@ use Rattle.register.specs.Calls.{leaves}
 use Rattle.message.specs.declared.Kind.{Kind}
 use Rattle.reply.specs.Reply.{replied, writtenLength}
 use Rattle.answers.specs.declared.Opening.{Opening}
-use Rattle.session.specs.Events.{Turn, placed, nothing, fileEnded}
+use Rattle.session.specs.Events.{Turn, placed, nothing, fileEnded, isDue}
 use Rattle.session.specs.Machine.{Scan, scanned, lastEnded, opened, unopened}
 use Rattle.session.specs.Ranges.{isClosed, readRefused, endRefused}
 use Rattle.session.specs.declared.Place.{Place}
@@ -98,14 +98,6 @@ unfoldable pub readDone : Session → List ℕ → List ℕ → List ℕ → Don
 readDone s w input room =
     pick (eqb (lowest (readingRefusals s w room)) 0) (readServed (scanned s w input) room)
     (refusedBy (lowest (readingRefusals s w room)) s w room)
-
--- whether the file's end has a reply to give there
-unfoldable pub isDue : Place → Bool
-isDue BeforeEsi = false
-isDue Outside = false
-isDue (Collecting kind) = true
-isDue InData = true
-isDue Closed = false
 
 -- an end was signalled, and another reply is due
 unfoldable pub awaits : Session → Session

@@ -2,7 +2,7 @@
 ghost use mathlib.Core.Path.{_≡_};
 ghost use Rattle.des.specs.Des.{cipherBy};
 ghost use Rattle.session.specs.Lines.{lineAfter};
-ghost use Rattle.session.specs.Events.{isData, gatheredAll, batchWith, heardBy};
+ghost use Rattle.session.specs.Events.{isData, isDue, gatheredAll, batchWith, heardBy};
 ghost use Rattle.session.specs.Ranges.{isClosed, inRange, endRefused, readRefused};
 
 pub fn is_data(p: session::Place) -> bool
@@ -26,6 +26,19 @@ pub fn is_closed(p: session::Place) -> bool
         session::Place::Collecting(_) => false,
         session::Place::InData => false,
         session::Place::Closed => true,
+    }
+}
+
+// Whether the file's end has a reply to give there.
+pub fn is_due(p: session::Place) -> bool
+    ensures { λ r. ⌜ r ≡ isDue p ⌝ }
+{
+    match p {
+        session::Place::BeforeEsi => false,
+        session::Place::Outside => false,
+        session::Place::Collecting(_) => true,
+        session::Place::InData => true,
+        session::Place::Closed => false,
     }
 }
 

@@ -1,5 +1,4 @@
-// The program: a bank's table of customers in a file, and the files that customers send. Thin over `front`; `showing` has the command show, `terminal` the words, `folder` the files.
-mod keep;
+// The program: a bank's table of customers in a file, and the files that customers send. Thin over the calls: `keeping` has the commands that keep a table, `showing` the command show, `terminal` the words, `folder` the files.
 mod receive;
 
 use terminal::asked;
@@ -33,10 +32,10 @@ fn command_of(word: &[u8]) -> u32 {
 
 fn run(command: u32) {
     match command {
-        1 => keep::setup(),
-        2 => keep::add(),
-        3 => keep::key(),
-        4 => keep::order(),
+        1 => keeping::setup(),
+        2 => keeping::add(),
+        3 => keeping::key(),
+        4 => keeping::order(),
         5 => receive::receive(),
         6 => showing::show(),
         _ => say::help(),

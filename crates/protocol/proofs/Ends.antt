@@ -10,7 +10,7 @@ use Rattle.text.proofs.Lists.{picked}
 use Rattle.reply.specs.Reply.{replyOf}
 use Rattle.reply.specs.declared.Answering.{Answering}
 use Rattle.whole.specs.WholeFile.{Given, givenAt}
-use Rattle.session.specs.Events.{Turn, fileEnded}
+use Rattle.session.specs.Events.{Turn, fileEnded, isDue}
 use Rattle.session.specs.Machine.{lastEnded}
 use Rattle.session.specs.Ranges.{isClosed}
 use Rattle.session.specs.Told.{Answered, saidBy, endTold}
@@ -19,7 +19,7 @@ use Rattle.session.specs.declared.Place.the-variants.{BeforeEsi, Outside, Colle
 use Rattle.session.specs.declared.Reply.{Reply}
 use Rattle.session.specs.declared.Session.{Session}
 use Rattle.cutting.proofs.Keeps.{keeps-last, keeps-file}
-use Rattle.calls.specs.Reading.{Done, servedBy, isDue, awaits, finishes, endServed, endDone}
+use Rattle.calls.specs.Reading.{Done, servedBy, awaits, finishes, endServed, endDone}
 use Rattle.calls.specs.Calls.{shownBy}
 use Rattle.protocol.specs.Protocol.{Saw, seenAt, sooner, Ends, again, last}
 use Rattle.protocol.proofs.Good.{EndGood, end-served, keeps-end-good, awaits-good}

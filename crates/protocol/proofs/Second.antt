@@ -18,13 +18,13 @@ use Rattle.answers.specs.Answers.{bareAnswer}
 use Rattle.answers.specs.declared.Opening.{Opening}
 use Rattle.whole.specs.Messages.{wantsMore}
 use Rattle.session.specs.Lines.{waited, lineEnded}
-use Rattle.session.specs.Events.{Turn, silent, replies, nothing, placed, withBatch, judged, bareTurn, shut, heardBy, heard, gatheredAll, held, placeAfterEsi, esiDone, suoDone, varDone, keepsOn, esiOn, suoOn, varOn, esiStart, suoStart, varStart, firstEnds, outsideEnds, frameEnds, collectingEnds, endsIn, recordEnded, cutShort, finishedIn, fileEnded}
+use Rattle.session.specs.Events.{Turn, silent, replies, nothing, placed, withBatch, judged, bareTurn, shut, heardBy, heard, gatheredAll, held, placeAfterEsi, esiDone, suoDone, varDone, keepsOn, esiOn, suoOn, varOn, esiStart, suoStart, varStart, firstEnds, outsideEnds, frameEnds, collectingEnds, endsIn, recordEnded, cutShort, finishedIn, fileEnded, isDue}
 use Rattle.session.specs.Machine.{withLine, isBegun, lastEnded}
 use Rattle.session.specs.declared.Place.{Place}
 use Rattle.session.specs.declared.Place.the-variants.{BeforeEsi, Outside, Collecting, InData, Closed}
 use Rattle.session.specs.declared.Gathered.{Gathered}
 use Rattle.session.specs.declared.Session.{Session}
-use Rattle.calls.specs.Reading.{isDue, awaits}
+use Rattle.calls.specs.Reading.{awaits}
 
 -- ---- the file's end gives a reply where one is due
 

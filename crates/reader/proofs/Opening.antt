@@ -8,7 +8,7 @@ use borrow.Author.Tests.{eq-eqb, ne-eqb}
 use lib.Dec.{eqb}
 use Rattle.ground.specs.Choice.{either, fails, pick, between}
 use Rattle.ground.proofs.Choices.{picks, skips, either-left, either-right, between-in, between-below, between-above}
-use Rattle.calendar.specs.Dates.{realDate, realTime, earlier}
+use Rattle.calendar.specs.Dates.{realTime}
 use Rattle.table.specs.Decode.{isTable, tableOf}
 use Rattle.table.specs.Stored.{dayStored}
 use Rattle.table.proofs.Stores.{day-is}
@@ -33,24 +33,18 @@ module _ (b : List ℕ) (o : Opening) where
     unfolding openingAnswer openingRefusals noTable fails
     bad-moment h = sym (lowest-next _ _ (ap fails e) ∙ lowest-first _ _ h)
 
-    pub no-date : realDate (o .today .yymmdd) ≡ false → 4 ≡ openingAnswer b o
-    unfolding badDay fails
-    no-date h = bad-moment (either-left _ _ (either-left _ _ (ap fails h)))
+    pub bad-day : badDay (tableOf b) (o .today .yymmdd) ≡ true → 4 ≡ openingAnswer b o
+    bad-day h = bad-moment (either-left _ _ h)
 
-    module _ (d : realDate (o .today .yymmdd) ≡ true) where
-      pub day-before : earlier (o .today .yymmdd) (tableOf b .day) ≡ true → 4 ≡ openingAnswer b o
-      unfolding badDay
-      day-before h = bad-moment (either-left _ _ (either-right _ _ h))
-
+    module _ (d : badDay (tableOf b) (o .today .yymmdd) ≡ false) where
       pub no-time : realTime (o .time) ≡ false → 4 ≡ openingAnswer b o
       unfolding fails
       no-time h = bad-moment (either-right _ _ (ap fails h))
 
-      module _ (l : earlier (o .today .yymmdd) (tableOf b .day) ≡ false) (t : realTime (o .time) ≡ true) where
+      module _ (t : realTime (o .time) ≡ true) where
         good-moment : openingAnswer b o ≡ lowest (record { number = 11; holds = fails (between 1 16 (o .kind)) } ∷ [])
-        unfolding openingAnswer openingRefusals noTable badDay fails
-        good-moment =
-            lowest-next _ _ (ap fails e) ∙ lowest-next _ _ (either-none _ _ (either-none _ _ (ap fails d) l) (ap fails t))
+        unfolding openingAnswer openingRefusals noTable fails
+        good-moment = lowest-next _ _ (ap fails e) ∙ lowest-next _ _ (either-none _ _ d (ap fails t))
 
         pub kind-below : o .kind < 1 → 11 ≡ openingAnswer b o
         unfolding fails

@@ -11,13 +11,13 @@ use Rattle.ground.specs.Choice.{pick}
 use Rattle.ground.proofs.Choices.{picks, skips}
 use Rattle.table.specs.Decode.{tableOf}
 use Rattle.conditions.specs.Refusals.{lowest}
-use Rattle.session.specs.Events.{Turn, fileEnded}
+use Rattle.session.specs.Events.{Turn, fileEnded, isDue}
 use Rattle.session.specs.Machine.{Scan, scanned, lastEnded}
 use Rattle.session.specs.Ranges.{isClosed, readRefused, endRefused}
 use Rattle.session.specs.declared.Session.{Session}
 use Rattle.session.specs.declared.Reply.{Reply}
 use Rattle.session.specs.declared.Stepped.{Stepped}
-use Rattle.calls.specs.Reading.{Done, refusedBy, servedBy, roomAfter, lengthOf, readingRefusals, endingRefusals, readServed, readDone, isDue, awaits, finishes, endServed, endDone}
+use Rattle.calls.specs.Reading.{Done, refusedBy, servedBy, roomAfter, lengthOf, readingRefusals, endingRefusals, readServed, readDone, awaits, finishes, endServed, endDone}
 use Rattle.calls.specs.declared.Answer.{Answer}
 use Rattle.reader.specs.Lent.{lentRefusals}
 use Rattle.reader.proofs.Refusing.{threeOf, lent-refuses, session-refuses, none-refuses}

@@ -2,7 +2,7 @@
 ghost use mathlib.Core.Path.{_≡_};
 ghost use mathlib.Core.Bool.{true, false};
 ghost use Rattle.conditions.specs.Refusals.{lowest};
-ghost use Rattle.calls.specs.Reading.{openingAnswer, openingGives, openingLeaves, isDue, awaits, finishes, roomAfter, lengthOf, readDone, endDone};
+ghost use Rattle.calls.specs.Reading.{openingAnswer, openingGives, openingLeaves, awaits, finishes, roomAfter, lengthOf, readDone, endDone};
 ghost use Rattle.reader.specs.Lent.{lentRefusals};
 
 // ---- open
@@ -11,15 +11,11 @@ ghost use Rattle.reader.specs.Lent.{lentRefusals};
 fn opening_refusal(t: &[u8], o: answers::Opening) -> u32
     ensures { λ r. ⌜ r ≡ openingAnswer (now (t .entry)) o ⌝ }
 {
-    let today = o.today;
     if !table::is_table(t) {
         return 2;
     }
-    if !today.is_real() {
-        return 4;
-    }
-    let day = table::day(t);
-    if today.before(day) {
+    let today = o.today;
+    if conditions::is_bad_day(t, today) {
         return 4;
     }
     if !calendar::is_real_time(o.time) {
@@ -124,18 +120,6 @@ pub fn read(t: &mut [u8], s: session::Session, input: &[u8], room: &mut [u8]) ->
 
 // ---- end
 
-fn is_due(p: session::Place) -> bool
-    ensures { λ r. ⌜ r ≡ isDue p ⌝ }
-{
-    match p {
-        session::Place::BeforeEsi => false,
-        session::Place::Outside => false,
-        session::Place::Collecting(_) => true,
-        session::Place::InData => true,
-        session::Place::Closed => false,
-    }
-}
-
 // Another reply is due.
 fn awaiting(s: session::Session) -> session::Session
     ensures { λ r. ⌜ r ≡ awaits s ⌝ }
@@ -188,7 +172,7 @@ pub fn end(t: &mut [u8], s: session::Session, room: &mut [u8]) -> calls::Answer
     let place = after.place;
     if reply.given {
         let length = put_reply(room, reply);
-        if is_due(place) {
+        if hearing::is_due(place) {
             return answered(awaiting(after), length, false);
         }
         return answered(finished(after), length, true);

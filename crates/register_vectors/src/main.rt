@@ -1,8 +1,8 @@
 // The calls that keep a table: each refusal, each pair that competes, appendix 3's customer, and changeovers. One labelled line each.
+use conditions::Length;
 use libc::STDOUT_FILENO;
 use register::Adding;
 use register::Entering;
-use register::Length;
 use register::Ordering;
 use register::Setting;
 

@@ -330,3 +330,11 @@ finishedIn Closed s w = silent s w
 
 unfoldable pub fileEnded : Session → List ℕ → Turn
 fileEnded s w = finishedIn (s .place) s w
+
+-- whether the file's end has a reply to give there
+unfoldable pub isDue : Place → Bool
+isDue BeforeEsi = false
+isDue Outside = false
+isDue (Collecting kind) = true
+isDue InData = true
+isDue Closed = false

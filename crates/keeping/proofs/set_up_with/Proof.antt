@@ -4,8 +4,8 @@ use Prim.Native.Nat.{_-_}
 use mathlib.Core.Path.{sym}
 use lib.Seq.{length-take-le}
 use borrow.Author.Needs.{needs}
-use Rattle.lentilpot.proofs.keep.set_up_with.Statement.{statement}
-use Rattle.lentilpot.proofs.keep.set_up_with.Tie as tie
+use Rattle.keeping.proofs.set_up_with.Statement.{statement}
+use Rattle.keeping.proofs.set_up_with.Tie as tie
 
 returns : tie.Need-returns
 returns c = search needs

@@ -1,9 +1,9 @@
 -- Each place has its own answer.
 use mathlib.Core.Path.{sym, ap}
-use Rattle.calls.specs.Reading.{isDue}
+use Rattle.session.specs.Events.{isDue}
 use borrow.Author.Needs.{needs}
-use Rattle.reader.proofs.is_due.Statement.{statement}
-use Rattle.reader.proofs.is_due.Tie as tie
+use Rattle.hearing.proofs.is_due.Statement.{statement}
+use Rattle.hearing.proofs.is_due.Tie as tie
 
 enum-told : tie.Need-enum-told
 enum-told c = search needs

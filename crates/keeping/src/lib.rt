@@ -1,4 +1,4 @@
-// The commands that keep a table: setup, add, key, order.
+// The commands that keep a table: setup, add, key, order, each one of `register`'s calls between a load and a save.
 use folder::files;
 use folder::files::Saved;
 use folder::holidays;
@@ -98,7 +98,7 @@ fn set_up_with(t: &mut [u8], s: register::Setting, dates: &[u32], n: usize) -> u
     if dates.len() < n {
         return 11;
     }
-    front::set_up(t, s, &dates[..n])
+    register::set_up(t, s, &dates[..n])
 }
 
 // ---- add
@@ -175,7 +175,7 @@ fn add_to(table: &[u8], a: register::Adding) {
         lock::release(table);
         return;
     }
-    let refusal = front::add(&mut t, a);
+    let refusal = register::add(&mut t, a);
     answer(table, &t, refusal);
 }
 
@@ -267,7 +267,7 @@ fn enter(table: &[u8], e: register::Entering) {
         lock::release(table);
         return;
     }
-    let refusal = front::enter(&mut t, e);
+    let refusal = register::enter(&mut t, e);
     answer(table, &t, refusal);
 }
 
@@ -307,6 +307,6 @@ fn order_in(table: &[u8], o: register::Ordering) {
         lock::release(table);
         return;
     }
-    let refusal = front::order(&mut t, o);
+    let refusal = register::order(&mut t, o);
     answer(table, &t, refusal);
 }
