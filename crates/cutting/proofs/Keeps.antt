@@ -92,14 +92,14 @@ keeps-var s w m =
 
 -- ---- a session that is not closed
 
-record Opens (s u : Session) : Type 0 where
-  moves : Stays s u
-  opens : isClosed (u .place) ≡ false
+pub record Opens (s u : Session) : Type 0 where
+  pub moves : Stays s u
+  pub opens : isClosed (u .place) ≡ false
 
 opens-silent : {s u : Session} (w : List ℕ) → Opens s u → Keeps s w (silent u w)
 opens-silent w a = keeps-silent w (a .moves) (λ h. a .opens)
 
-opens-on : (s : Session) (kind : Kind) → Opens s (keepsOn s kind)
+pub opens-on : (s : Session) (kind : Kind) → Opens s (keepsOn s kind)
 unfolding keepsOn placed isClosed
 opens-on s kind = record { moves = stays-placed s (Collecting kind) (s .told) (s .gathered) (λ h. h) (λ f. f .message-long); opens = refl }
 
@@ -108,7 +108,7 @@ unfolding suoDone placed withBatch isClosed
 opens-suo s w m a l =
     record { moves = stays-framed s InData (s .told) _ (λ h. a) l (λ f. one-time-fits (tableOf w) (m .text)); opens = refl }
 
-opens-data : (s : Session) → Opens s (dataTaken s)
+pub opens-data : (s : Session) → Opens s (dataTaken s)
 unfolding dataTaken placed withBatch isClosed
 opens-data s = record { moves = stays-framed s InData (s .told) _ (λ h. h) (λ f. f .suo-long) (λ f. f .key-fits); opens = refl }
 
@@ -116,11 +116,11 @@ opens-skipped : (s : Session) → Opens s (placed s Outside true nothing)
 unfolding placed isClosed
 opens-skipped s = record { moves = stays-empty s Outside true; opens = refl }
 
-opens-suo-on : (s : Session) (w : List ℕ) → Opens s (suoOn s w)
+pub opens-suo-on : (s : Session) (w : List ℕ) → Opens s (suoOn s w)
 unfolding suoOn collectedBy
 opens-suo-on s w = picked (Opens s) _ _ _ (λ e. opens-on s Suo) (λ e. opens-suo s w _ (omega arith) (λ f. f .message-long))
 
-opens-suo-start : (s : Session) (w : List ℕ) → Opens s (suoStart s w)
+pub opens-suo-start : (s : Session) (w : List ℕ) → Opens s (suoStart s w)
 unfolding suoStart collectedBy aloneBy
 opens-suo-start s w =
     picked (Opens s) _ _ _ (λ e. opens-suo-on s w) (λ e. opens-suo s w _ (alone-small Suo _) (λ f. f .message-long))

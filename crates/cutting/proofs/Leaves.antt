@@ -22,6 +22,7 @@ use Rattle.verdict.specs.Outcomes.{recordAfter, tableAfter, tableBy, esiTable, 
 use Rattle.checks.specs.declared.Collected.{Collected}
 use Rattle.checks.specs.declared.Frame.{Frame}
 use Rattle.checks.specs.declared.Occasion.{Occasion}
+use Rattle.verdict.proofs.Laws.{after-day}
 use Rattle.verdict.proofs.Leaves.{esi-leaves-table, frame-leaves-table}
 
 -- v is a table, of the day that b says
@@ -30,15 +31,6 @@ pub record Still (b v : List ℕ) : Type 0 where
   pub same-day : tableOf v .day ≡ tableOf b .day
 
 -- ---- the day
-
-replaced-day : (t : Table) (f : Found) (c : Customer) → replacedAt t f c .day ≡ t .day
-unfolding replacedAt withCustomer
-replaced-day t (At i) c = refl
-replaced-day t Unknown c = refl
-
-after-day : (t : Table) (o : Occasion) (m closing : List ℕ) (once : ℕ) → tableAfter t o m closing once .day ≡ t .day
-unfolding tableAfter withSeed withNamed
-after-day t o m closing once = replaced-day t (placeOf t (senderOf m)) (recordAfter t o m closing once)
 
 by-day : (f : Fault) (t u : Table) → u .day ≡ t .day → tableBy f t u .day ≡ t .day
 unfolding tableBy

@@ -27,7 +27,7 @@ use Rattle.checks.specs.declared.Frame.{Frame}
 use Rattle.checks.specs.declared.Occasion.{Occasion}
 use Rattle.checks.proofs.Order.{NoneFails, accepted, none-left, none-right}
 use Rattle.checks.proofs.Parts.{esiKeys, typeChecks, esiParts, frameParts, esi-parts, frame-parts}
-use Rattle.verdict.proofs.Laws.{Accepted, Marked, esi-accepted, frame-accepted, esi-marked, frame-marked, esi-others, frame-others, esi-is, frame-is, with-named, who-is, record-who}
+use Rattle.verdict.proofs.Laws.{Accepted, Marked, esi-accepted, frame-accepted, esi-marked, frame-marked, esi-others, frame-others, esi-is, frame-is, with-named, who-is, record-who, named-stays, after-day}
 
 -- the message m was accepted on the table t, and u is the table after it
 pub record Took (t u : Table) (m : List ℕ) : Type 0 where
@@ -77,28 +77,11 @@ stamp-passed t c today m l n =
 
 -- ---- what stays
 
-replaced-day : (t : Table) (f : Found) (c : Customer)
-    → (replacedAt t f c .day ≡ t .day) × (replacedAt t f c .settings ≡ t .settings) × (replacedAt t f c .holidays ≡ t .holidays)
-    × (length (replacedAt t f c .customers) ≡ length (t .customers))
-unfolding replacedAt withCustomer
-replaced-day t (At i) c = (refl, refl, refl, length-set (t .customers) i c)
-replaced-day t Unknown c = (refl, refl, refl, refl)
-
-named-stays : (t : Table) (who : List ℕ) (c : Customer)
-    → (withNamed t who c .day ≡ t .day) × (withNamed t who c .settings ≡ t .settings) × (withNamed t who c .holidays ≡ t .holidays)
-    × (length (withNamed t who c .customers) ≡ length (t .customers))
-unfolding withNamed
-named-stays t who c = replaced-day t (placeOf t who) c
-
 seed-place : (t : Table) (v : ℕ) (who : List ℕ) → placeOf (withSeed t v) who ≡ placeOf t who
 unfolding placeOf withSeed
 seed-place t v who = refl
 
 module _ (t : Table) (o : Occasion) (m closing : List ℕ) (once : ℕ) where
-  after-day : tableAfter t o m closing once .day ≡ t .day
-  unfolding tableAfter withSeed
-  after-day = named-stays t (senderOf m) (recordAfter t o m closing once) .0
-
   after-count : length (tableAfter t o m closing once .customers) ≡ length (t .customers)
   unfolding tableAfter withSeed
   after-count = named-stays t (senderOf m) (recordAfter t o m closing once) .3

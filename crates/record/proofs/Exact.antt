@@ -48,13 +48,13 @@ whole (suc zero) k = refl
 whole (suc (suc x)) k = absurd (omega arith)
 
 module _ (l : List ℕ) (b : AllBytes l) where
-  number-exact : (o w : ℕ) → o + w ≤ length l → bytesOf w (num (part o w l)) ≡ part o w l
+  pub number-exact : (o w : ℕ) → o + w ≤ length l → bytesOf w (num (part o w l)) ≡ part o w l
   number-exact o w h = bytes-num-at w (part o w l) (part-length l o w h) (bytes-part o w l b)
 
   numbers-exact : (o : ℕ) → o + 512 ≤ length l → bytesOfAll 8 (nums 8 64 (part o 512 l)) ≡ part o 512 l
   numbers-exact o h = bytesOfAll-nums 8 64 (part o 512 l) (part-length l o 512 h) (bytes-part o 512 l b)
 
-  flag-exact : (o : ℕ) → o + 1 ≤ length l → num (part o 1 l) ≤ 1 → bytesOf 1 (one (eqb (num (part o 1 l)) 1)) ≡ part o 1 l
+  pub flag-exact : (o : ℕ) → o + 1 ≤ length l → num (part o 1 l) ≤ 1 → bytesOf 1 (one (eqb (num (part o 1 l)) 1)) ≡ part o 1 l
   flag-exact o h k = ap (bytesOf 1) (whole (num (part o 1 l)) k) ∙ number-exact o 1 h
 
 -- ---- a previous key

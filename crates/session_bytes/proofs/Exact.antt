@@ -13,12 +13,12 @@ use Rattle.ground.specs.Lists.{part, same}
 use Rattle.ground.proofs.Choices.{fails-left, decides, eq-same}
 use Rattle.splices.specs.Bytes.{num, numAt, bytesOf, joined}
 use Rattle.splices.proofs.Splice.{AllBytes, bytes-part, part-length, part-add, part-all}
-use Rattle.splices.proofs.Chunks.{bytes-num-at, num-bytes}
+use Rattle.splices.proofs.Chunks.{num-bytes}
 use Rattle.splices.proofs.Fields.{parts, join-parts}
 use Rattle.record.proofs.Widths.{byte-one}
 use Rattle.record.proofs.Places.{num-in}
 use Rattle.record.proofs.Back.{field}
-use Rattle.record.proofs.Exact.{differ, agree}
+use Rattle.record.proofs.Exact.{differ, agree, number-exact, flag-exact}
 use Rattle.session_bytes.specs.Session.{sessionSize, placeNumber, placeNumbered, kindNumber, keyBytes, keyOf, stateBytes, stateOf, sessionBytes, sessionOf, isSession}
 use Rattle.session_bytes.specs.Groups.{Flags}
 use Rattle.session_bytes.proofs.Widths.{stateWidths, sessionFields, sessionWidths, session-wide}
@@ -34,12 +34,6 @@ tested F b f g = (f, λ e x. let h : b ≡ true = g x in let z : _≡_ {A = ℕ}
 
 -- ---- one field of a list of bytes
 
-whole : (x : ℕ) → x ≤ 1 → one (eqb x 1) ≡ x
-unfolding one
-whole zero k = refl
-whole (suc zero) k = refl
-whole (suc (suc x)) k = absurd (omega arith)
-
 numbered : (x : ℕ) → x ≤ 6 → placeNumber (placeNumbered x) ≡ x
 unfolding placeNumber placeNumbered kindNumber pick
 numbered zero k = refl
@@ -50,13 +44,6 @@ numbered (suc (suc (suc (suc zero)))) k = refl
 numbered (suc (suc (suc (suc (suc zero))))) k = refl
 numbered (suc (suc (suc (suc (suc (suc zero)))))) k = refl
 numbered (suc (suc (suc (suc (suc (suc (suc x))))))) k = absurd (omega arith)
-
-module _ (l : List ℕ) (b : AllBytes l) where
-  number-exact : (o w : ℕ) → o + w ≤ length l → bytesOf w (num (part o w l)) ≡ part o w l
-  number-exact o w h = bytes-num-at w (part o w l) (part-length l o w h) (bytes-part o w l b)
-
-  flag-exact : (o : ℕ) → o + 1 ≤ length l → num (part o 1 l) ≤ 1 → bytesOf 1 (one (eqb (num (part o 1 l)) 1)) ≡ part o 1 l
-  flag-exact o h k = ap (bytesOf 1) (whole (num (part o 1 l)) k) ∙ number-exact o 1 h
 
 -- ---- a digest's state
 

@@ -6,7 +6,7 @@ use mathlib.Core.List.{List, [], _∷_, _++_}
 use Prim.Native.Nat.{ℕ, _+_, _≤_, _<_}
 use native.Mathlib.Omega.{arith}
 use borrow.Author.Tests.{leb-false, lt-ltb}
-use lib.ListN.{length, take}
+use lib.ListN.{length, take, length-set}
 use Rattle.ground.specs.Choice.{pick}
 use Rattle.ground.specs.Lists.{member}
 use Rattle.ground.proofs.Choices.{join}
@@ -315,3 +315,22 @@ pub frame-others : (t : Table) (o : Occasion) (f : Frame) (j : ℕ) → (placeOf
     → customerIn (frameTable t o f) j ≡ customerIn t j
 unfolding frameTable
 frame-others t o f j n = by-others _ t _ j (after-others t o (f .suo .text) (f .var .text) (keyOr0 (f .once)) j n)
+
+-- ---- what an accepted message leaves as it was
+
+replaced-day : (t : Table) (f : Found) (c : Customer)
+    → (replacedAt t f c .day ≡ t .day) × (replacedAt t f c .settings ≡ t .settings) × (replacedAt t f c .holidays ≡ t .holidays)
+    × (length (replacedAt t f c .customers) ≡ length (t .customers))
+unfolding replacedAt withCustomer
+replaced-day t (At i) c = (refl, refl, refl, length-set (t .customers) i c)
+replaced-day t Unknown c = (refl, refl, refl, refl)
+
+pub named-stays : (t : Table) (who : List ℕ) (c : Customer)
+    → (withNamed t who c .day ≡ t .day) × (withNamed t who c .settings ≡ t .settings) × (withNamed t who c .holidays ≡ t .holidays)
+    × (length (withNamed t who c .customers) ≡ length (t .customers))
+unfolding withNamed
+named-stays t who c = replaced-day t (placeOf t who) c
+
+pub after-day : (t : Table) (o : Occasion) (m closing : List ℕ) (once : ℕ) → tableAfter t o m closing once .day ≡ t .day
+unfolding tableAfter withSeed
+after-day t o m closing once = named-stays t (senderOf m) (recordAfter t o m closing once) .0
