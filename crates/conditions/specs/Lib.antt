@@ -1,2 +1,3 @@
 -- What the contracts of `conditions` cite.
 pub mod Refusals
+pub mod Length

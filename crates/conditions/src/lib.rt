@@ -7,6 +7,7 @@ ghost use Rattle.calendar.specs.Dates.{realDate};
 ghost use Rattle.table.specs.Table.{rising};
 ghost use Rattle.table.specs.Decode.{tableOf};
 ghost use Rattle.conditions.specs.Refusals.{badDay, tableFull, alreadyThere, evenPart, checkDiffers, notNext, badLength};
+ghost use Rattle.conditions.specs.Length.{lengthOf};
 
 // A changeover length: given, or left out.
 pub enum Length {
@@ -66,6 +67,16 @@ pub fn is_not_next(current: u32, new: u32) -> bool
     ensures { λ r. ⌜ r ≡ notNext current new ⌝ }
 {
     keys::next_generation(current) != new
+}
+
+// The days of a changeover.
+pub fn days_of(l: Length) -> u32
+    ensures { λ r. ⌜ r ≡ lengthOf l ⌝ }
+{
+    match l {
+        Length::Given(n) => n,
+        Length::LeftOut => 30,
+    }
 }
 
 // Whether a length is given and out of its limits.

@@ -19,7 +19,8 @@ use Rattle.customer.specs.declared.KeyPair.{KeyPair}
 use Rattle.customer.specs.declared.Customer.{Customer}
 use Rattle.changeover.specs.Changes.{changed, withKeys, withTransport, withWorking}
 use Rattle.table.specs.Table.{word, previousFits, pairFits, customerFits}
-use Rattle.register.specs.Calls.{lengthOf, newCustomer}
+use Rattle.conditions.specs.Length.{lengthOf}
+use Rattle.register.specs.Calls.{newCustomer}
 use Rattle.register.specs.declared.Adding.{Adding}
 
 -- ---- a new one

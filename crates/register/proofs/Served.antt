@@ -34,7 +34,8 @@ use Rattle.table.proofs.Encode
 use Rattle.table.proofs.Decode
 use Rattle.table.proofs.Stores
 use Rattle.conditions.specs.Refusals.{Refusal, refusal, lowest, noTable, badDay, tableFull, alreadyThere, noSuchCustomer, evenPart, checkDiffers, notNext, badLength}
-use Rattle.register.specs.Calls.{leaves, lengthOf, newCustomer, newTable, addedTo, enteredIn, orderedIn, settingUpRefusals, settingUpAnswer, settingUpLeaves, addingRefusals, addingAnswer, addingLeaves, enteringRefusals, enteringAnswer, enteringLeaves, orderingRefusals, orderingAnswer, orderingLeaves}
+use Rattle.register.specs.Calls.{leaves, newCustomer, newTable, addedTo, enteredIn, orderedIn, settingUpRefusals, settingUpAnswer, settingUpLeaves, addingRefusals, addingAnswer, addingLeaves, enteringRefusals, enteringAnswer, enteringLeaves, orderingRefusals, orderingAnswer, orderingLeaves}
+use Rattle.conditions.specs.Length.{lengthOf}
 use Rattle.conditions.specs.declared.Length.{Length}
 use Rattle.conditions.specs.declared.Length.the-variants.{Given, LeftOut}
 use Rattle.register.specs.declared.Setting.{Setting}

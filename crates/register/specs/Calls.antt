@@ -21,8 +21,7 @@ use Rattle.table.specs.Named.{named, withNamed}
 use Rattle.table.specs.Written.{tableSize, written}
 use Rattle.table.specs.Decode.{tableOf}
 use Rattle.conditions.specs.Refusals.{Refusal, refusal, lowest, noTable, badDay, tableFull, alreadyThere, noSuchCustomer, evenPart, checkDiffers, notNext, badLength}
-use Rattle.conditions.specs.declared.Length.{Length}
-use Rattle.conditions.specs.declared.Length.the-variants.{Given, LeftOut}
+use Rattle.conditions.specs.Length.{lengthOf}
 use Rattle.register.specs.declared.Setting.{Setting}
 use Rattle.register.specs.declared.Adding.{Adding}
 use Rattle.register.specs.declared.Entering.{Entering}
@@ -31,14 +30,6 @@ use Rattle.register.specs.declared.Ordering.{Ordering}
 -- what a call leaves of the lent bytes: a refused one leaves every byte, a served one writes the table
 unfoldable pub leaves : ℕ → List ℕ → Table → List ℕ
 leaves refused b t = pick (eqb refused 0) (written b t) b
-
--- where no length is given: 30 calendar days
-abbrev pub defaultLength : ℕ
-defaultLength = 30
-
-unfoldable pub lengthOf : Length → ℕ
-lengthOf (Given n) = n
-lengthOf LeftOut = defaultLength
 
 -- ---- set up a table: settings and holidays; stores day 800101
 

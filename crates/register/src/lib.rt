@@ -1,6 +1,6 @@
 // The four calls that keep a table: set up, add a customer, enter a transport key, order a new working key.
 ghost use mathlib.Core.Path.{_≡_};
-ghost use Rattle.register.specs.Calls.{lengthOf, newCustomer, settingUpAnswer, settingUpLeaves, addingAnswer, addingLeaves, enteringAnswer, enteringLeaves, orderingAnswer, orderingLeaves};
+ghost use Rattle.register.specs.Calls.{newCustomer, settingUpAnswer, settingUpLeaves, addingAnswer, addingLeaves, enteringAnswer, enteringLeaves, orderingAnswer, orderingLeaves};
 
 pub struct Setting {
     pub bank: [u8; 25],
@@ -137,23 +137,13 @@ fn adding_refusal(t: &[u8], a: Adding) -> u32
     0
 }
 
-// The days of a changeover.
-fn days_of(l: conditions::Length) -> u32
-    ensures { λ r. ⌜ r ≡ lengthOf l ⌝ }
-{
-    match l {
-        conditions::Length::Given(n) => n,
-        conditions::Length::LeftOut => 30,
-    }
-}
-
 // The customer that is added.
 fn new_customer(a: Adding) -> customer::Customer
     ensures { λ r. ⌜ r ≡ newCustomer a ⌝ }
 {
     let who = a.who;
     let length = a.length;
-    let days = days_of(length);
+    let days = conditions::days_of(length);
     let key = keys::combine(a.part1, a.part2);
     let first = keys::working_key_0(key);
     let transport = customer::KeyPair {

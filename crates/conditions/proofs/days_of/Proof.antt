@@ -1,8 +1,8 @@
 -- By the two cases.
-use Rattle.register.specs.Calls.{lengthOf}
+use Rattle.conditions.specs.Length.{lengthOf}
 use borrow.Author.Needs.{needs}
-use Rattle.register.proofs.days_of.Statement.{statement}
-use Rattle.register.proofs.days_of.Tie as tie
+use Rattle.conditions.proofs.days_of.Statement.{statement}
+use Rattle.conditions.proofs.days_of.Tie as tie
 
 enum-known-l : tie.Need-enum-known-l
 enum-known-l c = search needs
