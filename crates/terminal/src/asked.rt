@@ -37,15 +37,13 @@ pub fn are_as_many(low: usize, high: usize, words: &[u8]) -> bool {
     let n = os::arg_count();
     if n < low {
         say::err(b"lentilpot: too few words: expected ");
-        say::err(words);
-        return false;
-    }
-    if high < n {
+    } else if high < n {
         say::err(b"lentilpot: too many words: expected ");
-        say::err(words);
-        return false;
+    } else {
+        return true;
     }
-    true
+    say::err(words);
+    false
 }
 
 // Whether a word can name a file. The files beside it have longer names, so this one ends early.
@@ -133,21 +131,39 @@ pub fn read_size(i: usize) -> words::Number {
     value
 }
 
+// Whether a word fits its field.
+fn is_fit(word: &[u8], most: usize, name: &[u8], what: &[u8]) -> bool {
+    let fits = words::fits(word, most);
+    if !fits {
+        say::expected(name, what);
+    }
+    fits
+}
+
 // Two words, from word i on.
 pub fn who(i: usize, name: &[u8]) -> Named {
     let mut identity = io::buffer();
     let n = os::arg(i, &mut identity);
-    if !words::fits(&identity[..n], 17) {
-        say::expected(name, b"at most 17 characters");
+    if !is_fit(&identity[..n], 17, name, b"at most 17 characters") {
         return Named {
             good: false,
             who: [0; 25],
         };
     }
+    qualified(&identity[..n], next(i))
+}
+
+// An identity and the qualifier at word i.
+fn qualified(identity: &[u8], i: usize) -> Named {
     let mut qualifier = io::buffer();
-    let m = os::arg(next(i), &mut qualifier);
-    if !words::fits(&qualifier[..m], 8) {
-        say::expected(b"QUALIFIER", b"at most 8 characters, \"\" for a blank one");
+    let n = os::arg(i, &mut qualifier);
+    let word = &qualifier[..n];
+    if !is_fit(
+        word,
+        8,
+        b"QUALIFIER",
+        b"at most 8 characters, \"\" for a blank one",
+    ) {
         return Named {
             good: false,
             who: [0; 25],
@@ -155,7 +171,7 @@ pub fn who(i: usize, name: &[u8]) -> Named {
     }
     Named {
         good: true,
-        who: words::who(&identity[..n], &qualifier[..m]),
+        who: words::who(identity, word),
     }
 }
 
@@ -166,8 +182,7 @@ fn next(i: usize) -> usize {
 pub fn software(i: usize) -> Titled {
     let mut word = io::buffer();
     let n = os::arg(i, &mut word);
-    if !words::fits(&word[..n], 16) {
-        say::expected(b"SOFTWARE", b"at most 16 characters");
+    if !is_fit(&word[..n], 16, b"SOFTWARE", b"at most 16 characters") {
         return Titled {
             good: false,
             name: [0; 16],

@@ -94,35 +94,29 @@ pub fn answer(refusal: u32) {
     }
 }
 
+// One text as it is shown, and so one write.
 pub fn help() {
-    out(b"lentilpot setup   TABLE BANK QUALIFIER SOFTWARE FLOOR K V [HOLIDAYS]\n");
     out(
-        b"lentilpot add     TABLE DATE IDENTITY QUALIFIER PART1 PART2 CHECK GENERATION TYPES AGREED LEAVE [LENGTH]\n",
-    );
-    out(b"lentilpot key     TABLE DATE IDENTITY QUALIFIER PART1 PART2 CHECK GENERATION\n");
-    out(b"lentilpot order   TABLE DATE IDENTITY QUALIFIER CLOCK\n");
-    out(b"lentilpot receive TABLE DATE TIME TYPE CLOCK FILE REPLIES [READ]\n");
-    out(b"lentilpot show    TABLE\n");
-    out(b"lentilpot help\n");
-    help_words();
-}
+        b"lentilpot setup   TABLE BANK QUALIFIER SOFTWARE FLOOR K V [HOLIDAYS]
+lentilpot add     TABLE DATE IDENTITY QUALIFIER PART1 PART2 CHECK GENERATION TYPES AGREED LEAVE [LENGTH]
+lentilpot key     TABLE DATE IDENTITY QUALIFIER PART1 PART2 CHECK GENERATION
+lentilpot order   TABLE DATE IDENTITY QUALIFIER CLOCK
+lentilpot receive TABLE DATE TIME TYPE CLOCK FILE REPLIES [READ]
+lentilpot show    TABLE
+lentilpot help
 
-fn help_words() {
-    out(b"\nTABLE, FILE, REPLIES, HOLIDAYS  names of files; HOLIDAYS has one yymmdd a line\n");
-    out(b"DATE, TIME                      yymmdd and hhmmss\n");
-    out(b"K, V, PART1, PART2, CLOCK       16 hex digits, 0-9 and A-F; CHECK 6 of them\n");
-    out(b"GENERATION                      one digit\n");
-    out(
-        b"BANK, IDENTITY                  up to 17 characters; SOFTWARE up to 16; QUALIFIER up to 8, \"\" for a blank one\n",
-    );
-    out(b"FLOOR                           110 or 120\n");
-    out(b"TYPE, TYPES                     1 to 16; types as 1,3,16 or - for none\n");
-    out(b"AGREED, LEAVE                   yes or no\n");
-    out(
-        b"LENGTH                          days of a changeover, 1 to 60 (30 where it is left out)\n",
-    );
-    out(b"READ                            bytes a read, 1 to 65536 (65536 where it is left out)\n");
-    out(
-        b"\nA call answers 'ok' or 'refused N: why'. 'receive' lists the replies, one a line ('K 1001'), and writes them to REPLIES.\n",
+TABLE, FILE, REPLIES, HOLIDAYS  names of files; HOLIDAYS has one yymmdd a line
+DATE, TIME                      yymmdd and hhmmss
+K, V, PART1, PART2, CLOCK       16 hex digits, 0-9 and A-F; CHECK 6 of them
+GENERATION                      one digit
+BANK, IDENTITY                  up to 17 characters; SOFTWARE up to 16; QUALIFIER up to 8, \"\" for a blank one
+FLOOR                           110 or 120
+TYPE, TYPES                     1 to 16; types as 1,3,16 or - for none
+AGREED, LEAVE                   yes or no
+LENGTH                          days of a changeover, 1 to 60 (30 where it is left out)
+READ                            bytes a read, 1 to 65536 (65536 where it is left out)
+
+A call answers 'ok' or 'refused N: why'. 'receive' lists the replies, one a line ('K 1001'), and writes them to REPLIES.
+",
     );
 }
