@@ -48,6 +48,10 @@ pub fn remove(name: &[u8], ending: &[u8]) -> bool {
     os::unlink(&path[..n]) == 0
 }
 
+pub fn remove_new(name: &[u8]) {
+    remove(name, b".new");
+}
+
 pub fn is_there(name: &[u8], ending: &[u8]) -> bool {
     let fd = open_beside(name, ending);
     if fd < 0 {
@@ -100,112 +104,147 @@ pub fn flush_folder(name: &[u8]) -> bool {
     status == 0
 }
 
+// Tells something of the file of that very name.
+pub fn tell(path: &[u8], what: &[u8]) {
+    say::of_file(path, b"", what);
+}
+
+// Tells what can't be done with NAME.new, and why.
+pub fn trouble_new(what: &[u8], name: &[u8]) {
+    say::trouble_beside(what, name, b".new");
+}
+
+// The end of a command that gives NAME.new its name.
+pub fn quoted_both(name: &[u8]) {
+    say::quoted(name, b".new");
+    say::quoted(name, b"");
+}
+
 pub fn wrong_size(table: &[u8]) {
-    say::of_file(
+    tell(
         table,
-        b"",
         b"not the size of a table: expected a file of 49152 bytes, made by 'setup'\n",
     );
 }
 
-// Reads the table; whether it could be read and has a table's size.
-pub fn load(table: &[u8], t: &mut [u8]) -> bool {
-    let fd = os::open_read(table);
+// Opens a file to read it, or says what is the matter.
+pub fn open_told(what: &[u8], path: &[u8]) -> i32 {
+    let fd = os::open_read(path);
     if fd < 0 {
-        say::trouble(
-            b"can't open the table, expected a file of 49152 bytes, made by 'setup'",
-            table,
-        );
-        return false;
+        say::trouble(what, path);
     }
-    let n = io::read_full(fd, t);
+    fd
+}
+
+// One byte more of a file that should end here, or what is the matter; then closes it.
+pub fn read_over(fd: i32, what: &[u8], path: &[u8]) -> isize {
     let mut over = [0u8; 1];
     let more = libc::read(fd, &mut over);
     if more < 0 {
-        say::trouble(
-            b"can't read the table, expected a file of 49152 bytes, made by 'setup'",
-            table,
-        );
-        libc::close(fd);
-        return false;
+        say::trouble(what, path);
     }
     libc::close(fd);
-    if 0 < more {
-        wrong_size(table);
+    more
+}
+
+// Reads the table; whether it could be read and has a table's size.
+pub fn load(table: &[u8], t: &mut [u8]) -> bool {
+    let fd = open_told(
+        b"can't open the table, expected a file of 49152 bytes, made by 'setup'",
+        table,
+    );
+    if fd < 0 {
         return false;
     }
-    if n != 49152 {
-        wrong_size(table);
+    let n = io::read_full(fd, t);
+    is_whole(table, fd, n)
+}
+
+// Whether a table ends after the n bytes that were read.
+fn is_whole(table: &[u8], fd: i32, n: usize) -> bool {
+    let more = read_over(
+        fd,
+        b"can't read the table, expected a file of 49152 bytes, made by 'setup'",
+        table,
+    );
+    if more < 0 {
         return false;
     }
-    true
+    if more == 0 && n == 49152 {
+        return true;
+    }
+    wrong_size(table);
+    false
 }
 
 // Whether a table may be set up there: no file, or an empty one. A table that is there would lose its used stamps.
 pub fn is_free(table: &[u8]) -> bool {
     let fd = os::open_read(table);
     if fd < 0 {
-        if os::errno() == libc::ENOENT {
-            return true;
-        }
-        say::trouble(b"can't set up a table there", table);
-        return false;
+        return is_missing(table);
     }
-    let mut one = [0u8; 1];
-    let got = libc::read(fd, &mut one);
-    if got < 0 {
-        say::trouble(b"can't set up a table there", table);
-        libc::close(fd);
-        return false;
-    }
-    libc::close(fd);
+    let got = read_over(fd, b"can't set up a table there", table);
     if 0 < got {
-        say::of_file(
+        tell(
             table,
-            b"",
             b"there is a file already: expected the name of a new table (an old one would lose its used stamps)\n",
         );
-        return false;
     }
-    true
+    got == 0
+}
+
+// Whether a file could not be opened because there is none.
+fn is_missing(table: &[u8]) -> bool {
+    if os::errno() == libc::ENOENT {
+        return true;
+    }
+    say::trouble(b"can't set up a table there", table);
+    false
 }
 
 // Makes TABLE.new, for its owner alone since it is to hold keys.
 pub fn begin(table: &[u8]) -> i32 {
     let fd = make(table, b".new");
     if fd < 0 {
-        if os::errno() == libc::EEXIST {
-            say::of_file(
-                table,
-                b".new",
-                b"left by a run that was cut off before it changed the table: remove the replies' file of that run that ends in .new, then this file, and run again\n",
-            );
-            return -1;
-        }
-        say::trouble_beside(b"can't make the new table", table, b".new");
+        tell_unmade(table);
         return -1;
     }
-    if libc::fchmod(fd, 0o600) != 0 {
-        say::trouble_beside(
-            b"can't keep the new table for its owner alone",
-            table,
-            b".new",
-        );
-        give_up(table, fd);
-        return -1;
-    }
-    if !flush_folder(table) {
-        say::trouble(b"can't flush the folder of the table", table);
+    if !is_kept(table, fd) {
         give_up(table, fd);
         return -1;
     }
     fd
 }
 
+fn tell_unmade(table: &[u8]) {
+    if os::errno() == libc::EEXIST {
+        say::of_file(
+            table,
+            b".new",
+            b"left by a run that was cut off before it changed the table: remove the replies' file of that run that ends in .new, then this file, and run again\n",
+        );
+        return;
+    }
+    trouble_new(b"can't make the new table", table);
+}
+
+// Whether TABLE.new is its owner's alone and its name has reached the disk.
+fn is_kept(table: &[u8], fd: i32) -> bool {
+    if libc::fchmod(fd, 0o600) != 0 {
+        trouble_new(b"can't keep the new table for its owner alone", table);
+        return false;
+    }
+    if !flush_folder(table) {
+        say::trouble(b"can't flush the folder of the table", table);
+        return false;
+    }
+    true
+}
+
 // Leaves the table as it was.
 pub fn give_up(table: &[u8], fd: i32) {
     libc::close(fd);
-    remove(table, b".new");
+    remove_new(table);
 }
 
 fn write_whole(fd: i32, t: &[u8]) -> bool {
@@ -215,19 +254,22 @@ fn write_whole(fd: i32, t: &[u8]) -> bool {
     libc::fsync(fd) == 0
 }
 
-// Writes TABLE.new, flushes it, gives it the table's name and flushes the folder. Where the table was not saved, TABLE.new is the caller's to
-// remove, after all else that it has to undo.
-pub fn save(table: &[u8], fd: i32, t: &[u8]) -> Saved {
-    if !write_whole(fd, t) {
-        say::trouble_beside(
-            b"nothing was changed: can't write the new table",
-            table,
-            b".new",
-        );
-        libc::close(fd);
-        return Saved::Not;
+// Writes TABLE.new, flushes it and closes it.
+fn is_written(table: &[u8], fd: i32, t: &[u8]) -> bool {
+    let is_whole = write_whole(fd, t);
+    if !is_whole {
+        trouble_new(b"nothing was changed: can't write the new table", table);
     }
     libc::close(fd);
+    is_whole
+}
+
+// Writes TABLE.new, gives it the table's name and flushes the folder. Where the table was not saved, TABLE.new is the caller's to remove, after
+// all else that it has to undo.
+pub fn save(table: &[u8], fd: i32, t: &[u8]) -> Saved {
+    if !is_written(table, fd, t) {
+        return Saved::Not;
+    }
     if !take_name(table, b".new") {
         say::trouble(b"nothing was changed: can't replace the table", table);
         return Saved::Not;

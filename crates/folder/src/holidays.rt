@@ -1,9 +1,10 @@
 // The file of holidays that 'setup' is given.
+use crate::files;
 use terminal::asked;
 use terminal::say;
 
 fn bad_line(path: &[u8], line: u32) {
-    say::of_file(path, b"", b"line ");
+    files::tell(path, b"line ");
     io::print_decimal(libc::STDERR_FILENO, line as u64);
     say::err(b" isn't a date: expected one yymmdd a line\n");
 }
@@ -24,40 +25,24 @@ pub fn asked(i: usize) -> words::Dates {
     }
     let mut path = io::buffer();
     let n = os::arg(i, &mut path);
-    if !asked::is_file(b"HOLIDAYS", &path[..n]) {
+    let word = &path[..n];
+    if !asked::is_file(b"HOLIDAYS", word) {
         return no_dates();
     }
-    read_holidays(&path[..n])
+    read_holidays(word)
 }
 
 fn read_holidays(path: &[u8]) -> words::Dates {
-    let fd = os::open_read(path);
+    let fd = files::open_told(
+        b"can't open the holidays, expected a file with one yymmdd a line",
+        path,
+    );
     if fd < 0 {
-        say::trouble(
-            b"can't open the holidays, expected a file with one yymmdd a line",
-            path,
-        );
         return no_dates();
     }
     let mut lines = io::buffer();
     let n = io::read_full(fd, &mut lines);
-    let mut over = [0u8; 1];
-    let more = libc::read(fd, &mut over);
-    if more < 0 {
-        say::trouble(
-            b"can't read the holidays, expected a file with one yymmdd a line",
-            path,
-        );
-        libc::close(fd);
-        return no_dates();
-    }
-    libc::close(fd);
-    if 0 < more {
-        say::of_file(
-            path,
-            b"",
-            b"too long for holidays: expected at most 200 lines of one yymmdd each\n",
-        );
+    if !is_end(path, fd) {
         return no_dates();
     }
     let d = words::holidays(&lines[..n]);
@@ -65,4 +50,20 @@ fn read_holidays(path: &[u8]) -> words::Dates {
         bad_line(path, d.line);
     }
     d
+}
+
+// Whether all of the file was read.
+fn is_end(path: &[u8], fd: i32) -> bool {
+    let more = files::read_over(
+        fd,
+        b"can't read the holidays, expected a file with one yymmdd a line",
+        path,
+    );
+    if 0 < more {
+        files::tell(
+            path,
+            b"too long for holidays: expected at most 200 lines of one yymmdd each\n",
+        );
+    }
+    more == 0
 }

@@ -104,9 +104,8 @@ fn line_end(s: &[u8], from: usize) -> usize
 fn tell(table: &[u8]) {
     let fd = files::open_beside(table, b".lock");
     if fd < 0 {
-        say::of_file(
+        files::tell(
             table,
-            b"",
             b"the table is in use, and nothing was changed; try again\n",
         );
         return;
@@ -122,28 +121,22 @@ fn tell_owner(table: &[u8], lock: &[u8]) {
     let k = line_end(lock, 0);
     let owner = words::digits(&lock[..k], 1, 9);
     let words::Number::Is(pid) = owner else {
-        say::of_file(
-            table,
-            b"",
-            b"the table is in use by a run that has just begun or just ended, and nothing was changed; if no lentilpot runs on it, remove",
-        );
-        say::quoted(table, b".lock");
-        say::end_line();
+        tell_unsigned(table);
         return;
     };
     if is_living(pid) {
-        say::of_file(table, b"", b"the table is in use by process ");
-        io::print_decimal(libc::STDERR_FILENO, pid as u64);
-        say::err(b", and nothing was changed; try again when it has ended\n");
+        tell_living(table, pid);
         return;
     }
+    tell_dead(table, pid);
     if k < lock.len() {
         let from = k + 1;
         let end = line_end(lock, from);
-        tell_dead(table, pid, &lock[from..end]);
-        return;
+        tell_mend(table, &lock[from..end]);
+    } else {
+        tell_mend(table, b"");
     }
-    tell_dead(table, pid, b"");
+    end_at_lock(table);
 }
 
 fn is_living(pid: u32) -> bool {
@@ -156,29 +149,62 @@ fn is_living(pid: u32) -> bool {
     true
 }
 
-// A run was cut off: what is the case, and what to type.
-fn tell_dead(table: &[u8], pid: u32, replies: &[u8]) {
+// The lock's own name ends what is to be typed.
+fn end_at_lock(table: &[u8]) {
+    say::quoted(table, b".lock");
+    say::end_line();
+}
+
+fn tell_unsigned(table: &[u8]) {
+    files::tell(
+        table,
+        b"the table is in use by a run that has just begun or just ended, and nothing was changed; if no lentilpot runs on it, remove",
+    );
+    end_at_lock(table);
+}
+
+fn tell_living(table: &[u8], pid: u32) {
+    files::tell(table, b"the table is in use by process ");
+    io::print_decimal(libc::STDERR_FILENO, pid as u64);
+    say::err(b", and nothing was changed; try again when it has ended\n");
+}
+
+// A run was cut off.
+fn tell_dead(table: &[u8], pid: u32) {
     say::of_file(table, b".lock", b"left by process ");
     io::print_decimal(libc::STDERR_FILENO, pid as u64);
     say::err(b", which runs no more and ");
+}
+
+// What is the case with the table, and what to type.
+fn tell_mend(table: &[u8], replies: &[u8]) {
     if files::is_there(table, b".new") {
-        say::err(b"did not change the table. To mend: rm -f");
-        if 0 < replies.len() {
-            say::quoted(replies, b".new");
-        }
-        say::quoted(table, b".new");
-    } else if replies.len() == 0 {
-        say::err(b"may have changed the table: 'show' tells. To mend: rm");
-    } else if files::is_there(replies, b".new") {
-        say::err(b"saved the table; its replies stand. To mend: mv");
-        say::quoted(replies, b".new");
-        say::quoted(replies, b"");
-        say::err(b" && rm");
-    } else {
-        say::err(b"saved the table; its replies are in");
-        say::quoted(replies, b"");
-        say::err(b". To mend: rm");
+        tell_unchanged(table, replies);
+        return;
     }
-    say::quoted(table, b".lock");
-    say::end_line();
+    if replies.len() == 0 {
+        say::err(b"may have changed the table: 'show' tells. To mend: rm");
+        return;
+    }
+    tell_saved(replies);
+}
+
+fn tell_unchanged(table: &[u8], replies: &[u8]) {
+    say::err(b"did not change the table. To mend: rm -f");
+    if 0 < replies.len() {
+        say::quoted(replies, b".new");
+    }
+    say::quoted(table, b".new");
+}
+
+fn tell_saved(replies: &[u8]) {
+    if files::is_there(replies, b".new") {
+        say::err(b"saved the table; its replies stand. To mend: mv");
+        files::quoted_both(replies);
+        say::err(b" && rm");
+        return;
+    }
+    say::err(b"saved the table; its replies are in");
+    say::quoted(replies, b"");
+    say::err(b". To mend: rm");
 }

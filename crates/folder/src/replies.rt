@@ -22,19 +22,22 @@ pub fn is_free(replies: &[u8]) -> bool {
     false
 }
 
+// Tells what REPLIES.new holds, and how to keep it.
+fn tell_held(replies: &[u8], what: &[u8]) {
+    say::of_file(replies, b".new", what);
+    files::quoted_both(replies);
+    say::end_line();
+}
+
 pub fn tell_unmade(replies: &[u8]) {
     if os::errno() != libc::EEXIST {
-        say::trouble_beside(b"can't make the replies", replies, b".new");
+        files::trouble_new(b"can't make the replies", replies);
         return;
     }
-    say::of_file(
+    tell_held(
         replies,
-        b".new",
         b"holds the replies of a run that saved its table and was cut off. To keep them: mv",
     );
-    say::quoted(replies, b".new");
-    say::quoted(replies, b"");
-    say::end_line();
 }
 
 // Nothing was changed: the replies' name leaves the lock before TABLE.new goes.
@@ -47,12 +50,8 @@ pub fn undo(table: &[u8], kept: i32) {
 pub fn finish(table: &[u8], kept: i32, replies: &[u8], t: &[u8]) -> i32 {
     let listed = files::open_beside(replies, b".new");
     if listed < 0 {
-        say::trouble_beside(
-            b"nothing was changed: can't read the replies",
-            replies,
-            b".new",
-        );
-        files::remove(replies, b".new");
+        files::trouble_new(b"nothing was changed: can't read the replies", replies);
+        files::remove_new(replies);
         undo(table, kept);
         return -1;
     }
@@ -60,13 +59,16 @@ pub fn finish(table: &[u8], kept: i32, replies: &[u8], t: &[u8]) -> i32 {
     match saved {
         Saved::Not => {
             libc::close(listed);
-            files::remove(replies, b".new");
+            files::remove_new(replies);
             lock::unname_replies(table);
-            files::remove(table, b".new");
+            files::remove_new(table);
             -1
         }
         Saved::Unflushed => {
-            tell_kept(replies);
+            tell_held(
+                replies,
+                b"holds the replies; send none before 'sync' has flushed the table's folder, then: mv",
+            );
             libc::close(listed);
             -1
         }
@@ -74,23 +76,11 @@ pub fn finish(table: &[u8], kept: i32, replies: &[u8], t: &[u8]) -> i32 {
     }
 }
 
-fn tell_kept(replies: &[u8]) {
-    say::of_file(
-        replies,
-        b".new",
-        b"holds the replies; send none before 'sync' has flushed the table's folder, then: mv",
-    );
-    say::quoted(replies, b".new");
-    say::quoted(replies, b"");
-    say::end_line();
-}
-
 fn named(replies: &[u8], listed: i32) -> i32 {
     if !files::take_name(replies, b".new") {
-        say::trouble_beside(
+        files::trouble_new(
             b"the table was saved, and the replies stand in the file that ends in .new, which can't be renamed",
             replies,
-            b".new",
         );
         libc::close(listed);
         return -1;
@@ -118,11 +108,7 @@ pub fn is_put(out: i32, replies: &[u8], room: &[u8], length: usize) -> bool {
             return true;
         }
     }
-    say::trouble_beside(
-        b"nothing was changed: can't write the replies",
-        replies,
-        b".new",
-    );
+    files::trouble_new(b"nothing was changed: can't write the replies", replies);
     false
 }
 
@@ -151,9 +137,8 @@ fn is_listed(fd: i32, replies: &[u8]) -> bool {
         b'\n',
     ];
     if !say::out(&line) {
-        say::of_file(
+        files::tell(
             replies,
-            b"",
             b"the table was saved and the replies are in this file: can't list them on standard output\n",
         );
         return false;

@@ -22,23 +22,8 @@ enum-known-owner c = search needs
 enum-told : tie.Need-enum-told
 enum-told c = search needs
 
-slice-aggregate-of-file : tie.Need-slice-aggregate-of-file
-slice-aggregate-of-file c = search needs
-
-slice-aggregate-of-file-2 : tie.Need-slice-aggregate-of-file-2
-slice-aggregate-of-file-2 c = search needs
-
-of-file-requires : tie.Need-of-file-requires
-of-file-requires c κs = search needs
-
-slice-aggregate-quoted : tie.Need-slice-aggregate-quoted
-slice-aggregate-quoted c = search needs
-
-quoted-requires : tie.Need-quoted-requires
-quoted-requires c κs = search needs
-
-end-line-requires : tie.Need-end-line-requires
-end-line-requires c κs = search needs
+tell-unsigned-requires : tie.Need-tell-unsigned-requires
+tell-unsigned-requires c κs = search needs
 
 returns : tie.Need-returns
 returns c = search needs
@@ -46,29 +31,14 @@ returns c = search needs
 is-living-requires : tie.Need-is-living-requires
 is-living-requires c κs = search needs
 
-slice-aggregate-of-file-3 : tie.Need-slice-aggregate-of-file-3
-slice-aggregate-of-file-3 c = search needs
-
-slice-aggregate-of-file-4 : tie.Need-slice-aggregate-of-file-4
-slice-aggregate-of-file-4 c = search needs
-
-of-file-requires-2 : tie.Need-of-file-requires-2
-of-file-requires-2 c κs = search needs
-
-cast-print-decimal : tie.Need-cast-print-decimal
-cast-print-decimal c = search needs
-
-print-decimal-requires : tie.Need-print-decimal-requires
-print-decimal-requires c κs = search needs
-
-slice-aggregate-err : tie.Need-slice-aggregate-err
-slice-aggregate-err c = search needs
-
-err-requires : tie.Need-err-requires
-err-requires c κs = search needs
+tell-living-requires : tie.Need-tell-living-requires
+tell-living-requires c κs = search needs
 
 returns-2 : tie.Need-returns-2
 returns-2 c = search needs
+
+tell-dead-requires : tie.Need-tell-dead-requires
+tell-dead-requires c κs = search needs
 
 add-from : tie.Need-add-from
 add-from c = search needs
@@ -76,29 +46,29 @@ add-from c = search needs
 line-end-requires-2 : tie.Need-line-end-requires-2
 line-end-requires-2 c κs = search needs
 
-sub-tell-dead : tie.Need-sub-tell-dead
-sub-tell-dead c = search needs
+sub-tell-mend : tie.Need-sub-tell-mend
+sub-tell-mend c = search needs
 
-part-tell-dead-start : tie.Need-part-tell-dead-start
-part-tell-dead-start c = search needs
+part-tell-mend-start : tie.Need-part-tell-mend-start
+part-tell-mend-start c = search needs
 
-part-tell-dead-end : tie.Need-part-tell-dead-end
-part-tell-dead-end c = search needs
+part-tell-mend-end : tie.Need-part-tell-mend-end
+part-tell-mend-end c = search needs
 
-tell-dead-requires : tie.Need-tell-dead-requires
-tell-dead-requires c κs = search needs
+tell-mend-requires : tie.Need-tell-mend-requires
+tell-mend-requires c κs = search needs
+
+slice-aggregate-tell-mend : tie.Need-slice-aggregate-tell-mend
+slice-aggregate-tell-mend c = search needs
+
+tell-mend-requires-2 : tie.Need-tell-mend-requires-2
+tell-mend-requires-2 c κs = search needs
+
+end-at-lock-requires : tie.Need-end-at-lock-requires
+end-at-lock-requires c κs = search needs
 
 returns-3 : tie.Need-returns-3
 returns-3 c = search needs
-
-slice-aggregate-tell-dead : tie.Need-slice-aggregate-tell-dead
-slice-aggregate-tell-dead c = search needs
-
-tell-dead-requires-2 : tie.Need-tell-dead-requires-2
-tell-dead-requires-2 c κs = search needs
-
-returns-4 : tie.Need-returns-4
-returns-4 c = search needs
 
 pub tell-owner-spec : {M : Type 1} → statement M
 tell-owner-spec =
@@ -109,29 +79,19 @@ tell-owner-spec =
     digits-requires
     enum-known-owner
     enum-told
-    slice-aggregate-of-file
-    slice-aggregate-of-file-2
-    of-file-requires
-    slice-aggregate-quoted
-    quoted-requires
-    end-line-requires
+    tell-unsigned-requires
     returns
     is-living-requires
-    slice-aggregate-of-file-3
-    slice-aggregate-of-file-4
-    of-file-requires-2
-    cast-print-decimal
-    print-decimal-requires
-    slice-aggregate-err
-    err-requires
+    tell-living-requires
     returns-2
+    tell-dead-requires
     add-from
     line-end-requires-2
-    sub-tell-dead
-    part-tell-dead-start
-    part-tell-dead-end
-    tell-dead-requires
-    returns-3
-    slice-aggregate-tell-dead
-    tell-dead-requires-2
-    returns-4)
+    sub-tell-mend
+    part-tell-mend-start
+    part-tell-mend-end
+    tell-mend-requires
+    slice-aggregate-tell-mend
+    tell-mend-requires-2
+    end-at-lock-requires
+    returns-3)

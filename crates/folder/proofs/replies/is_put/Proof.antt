@@ -28,14 +28,11 @@ write-all-requires-2 c κs = search needs
 returns-3 : tie.Need-returns-3
 returns-3 c = search needs
 
-slice-aggregate-trouble-beside : tie.Need-slice-aggregate-trouble-beside
-slice-aggregate-trouble-beside c = search needs
+slice-aggregate-trouble-new : tie.Need-slice-aggregate-trouble-new
+slice-aggregate-trouble-new c = search needs
 
-slice-aggregate-trouble-beside-2 : tie.Need-slice-aggregate-trouble-beside-2
-slice-aggregate-trouble-beside-2 c = search needs
-
-trouble-beside-requires : tie.Need-trouble-beside-requires
-trouble-beside-requires c κs = search needs
+trouble-new-requires : tie.Need-trouble-new-requires
+trouble-new-requires c κs = search needs
 
 returns-4 : tie.Need-returns-4
 returns-4 c = search needs
@@ -51,7 +48,6 @@ is-put-spec =
     slice-aggregate-write-all-2
     write-all-requires-2
     returns-3
-    slice-aggregate-trouble-beside
-    slice-aggregate-trouble-beside-2
-    trouble-beside-requires
+    slice-aggregate-trouble-new
+    trouble-new-requires
     returns-4)
