@@ -65,7 +65,7 @@ module _ (c : Customer) (maker : KeyMaker) (clock today generation request : ℕ
         (chosen P _ _ _ (chosen P _ _ _ (same 1004 _ refl (inl refl)) (chosen P _ _ _ (same 1005 _ refl (inl refl)) (renewed _ refl)))
         (chosen P _ _ _ dropped (same 1037 _ refl (inl refl))))
 
-    by-answer : P (grantedBy c maker clock today generation request)
+    pub by-answer : P (grantedBy c maker clock today generation request)
     unfolding grantedBy
     by-answer = chosen P _ _ _ by-current by-previous
 

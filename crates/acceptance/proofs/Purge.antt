@@ -16,6 +16,7 @@ use Rattle.ground.proofs.Choices.{left, right, join, either-left, either-right,
 use Rattle.customer.specs.Customer.{realStamp, soundOnce, soundStamps, soundCustomer}
 use Rattle.customer.specs.declared.Customer.{Customer}
 use Rattle.customer.proofs.Laws.{used}
+use Rattle.changeover.proofs.Laws.{under}
 use Rattle.acceptance.specs.Stamps.{heldStamps, stampOld, liveOf, liveStamps, liveOnce, inPlaces, withStamp}
 use Rattle.acceptance.proofs.Room.{member-cons, in-places, length-in-places, all-held}
 
@@ -159,10 +160,6 @@ sound-places : (ss ks : List ℕ) (s k : ℕ) → length ss ≡ length ks → le
 sound-places ss ks s k l h e u =
     rw (in-places-snoc ss s (length ss) refl h, in-places-snoc ks k (length ss) (sym l) h, add-one (length ss))
     (sound-more ss ks _ _ s k l e u (sound-zeros (63 - length ss)))
-
--- the rest of a chain of tests, replaced
-under : (a b d : Bool) → (b ≡ true → d ≡ true) → both a b ≡ true → both a d ≡ true
-under a b d f e = join a d (left a b e) (f (right a b e))
 
 pub with-stamp-sound : (hs : List ℕ) (today : ℕ) (c : Customer) (stamp once : ℕ) → soundCustomer c ≡ true
     → length (c .stamps) ≡ 64 → length (c .once) ≡ 64 → length (liveStamps hs today c) < 64

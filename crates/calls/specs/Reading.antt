@@ -11,14 +11,12 @@ use Rattle.table.specs.Table.{withDay}
 use Rattle.table.specs.Decode.{tableOf}
 use Rattle.conditions.specs.Refusals.{Refusal, refusal, lowest, noTable, badDay}
 use Rattle.register.specs.Calls.{leaves}
-use Rattle.message.specs.declared.Kind.{Kind}
 use Rattle.reply.specs.Reply.{replied, writtenLength}
 use Rattle.answers.specs.declared.Opening.{Opening}
 use Rattle.session.specs.Events.{Turn, placed, nothing, fileEnded, isDue}
 use Rattle.session.specs.Machine.{Scan, scanned, lastEnded, opened, unopened}
 use Rattle.session.specs.Ranges.{isClosed, readRefused, endRefused}
-use Rattle.session.specs.declared.Place.{Place}
-use Rattle.session.specs.declared.Place.the-variants.{BeforeEsi, Outside, Collecting, InData, Closed}
+use Rattle.session.specs.declared.Place.the-variants.{Closed}
 use Rattle.session.specs.declared.Session.{Session}
 use Rattle.session.specs.declared.Reply.{Reply}
 use Rattle.calls.specs.declared.OpenAnswer.{OpenAnswer}

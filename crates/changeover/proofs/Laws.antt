@@ -39,7 +39,7 @@ pub granted : {r a : Bool} → r ≡ a → r ≡ false → fails a ≡ true
 granted e p = fails-of _ (sym e ∙ p)
 
 -- the rest of a chain of tests, replaced
-under : (a b d : Bool) → (b ≡ true → d ≡ true) → both a b ≡ true → both a d ≡ true
+pub under : (a b d : Bool) → (b ≡ true → d ≡ true) → both a b ≡ true → both a d ≡ true
 under a b d f e = join a d (left a b e) (f (right a b e))
 
 -- ---- the parts of sound keys

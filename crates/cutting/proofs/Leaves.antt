@@ -6,19 +6,14 @@ use mathlib.Core.List.{List}
 use mathlib.Core.Bool.{true}
 use lib.ListN.{length}
 use Rattle.calendar.specs.Dates.{realDate}
-use Rattle.customer.specs.declared.Customer.{Customer}
-use Rattle.table.specs.Table.{Table, soundTable, placeOf, withCustomer, withSeed}
-use Rattle.table.specs.Named.{replacedAt, withNamed}
+use Rattle.table.specs.Table.{Table, soundTable}
 use Rattle.table.specs.Written.{written}
 use Rattle.table.specs.Decode.{tableOf, isTable}
-use Rattle.table.specs.declared.Found.{Found}
-use Rattle.table.specs.declared.Found.the-variants.{At, Unknown}
 use Rattle.table.proofs.Decode.{rewritten-is}
-use Rattle.message.specs.Fields.{senderOf}
 use Rattle.message.specs.declared.Fault.{Fault}
 use Rattle.message.specs.declared.Fault.the-variants.{Sound, Found as FaultFound}
 use Rattle.checks.specs.Checks.{firstFailing, esiChecks, frameChecks, keyOr0}
-use Rattle.verdict.specs.Outcomes.{recordAfter, tableAfter, tableBy, esiTable, frameTable, esiLeaves, frameLeaves}
+use Rattle.verdict.specs.Outcomes.{tableBy, esiTable, frameTable, esiLeaves, frameLeaves}
 use Rattle.checks.specs.declared.Collected.{Collected}
 use Rattle.checks.specs.declared.Frame.{Frame}
 use Rattle.checks.specs.declared.Occasion.{Occasion}

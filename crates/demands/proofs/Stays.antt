@@ -13,13 +13,12 @@ use Rattle.table.specs.Table.{Table, placeFrom, placeOf, isUnknown, customerIn,
 use Rattle.table.specs.Named.{named, withNamed}
 use Rattle.table.specs.Decode.{tableOf}
 use Rattle.table.specs.declared.Found.the-variants.{At}
-use Rattle.table.proofs.Places.{same-place, found-is}
+use Rattle.table.proofs.Places.{same-place, found-is, named-at, with-named-at}
 use Rattle.register.specs.Calls.{addedTo, enteredIn, orderedIn}
 use Rattle.register.specs.declared.Adding.{Adding}
 use Rattle.register.specs.declared.Entering.{Entering}
 use Rattle.register.specs.declared.Ordering.{Ordering}
 use Rattle.register.proofs.Customers.{transport-who, working-who}
-use Rattle.register.proofs.Rewritten.{named-at, with-named-at}
 use Rattle.register.proofs.Served.{entering-served, ordering-served}
 use Rattle.register.proofs.Laws.{Kept, adding-table, entering-table, ordering-table, added-others, entered-others, ordered-others, added-keeps, entered-keeps, ordered-keeps}
 use Rattle.message.specs.Fields.{receiverOf}

@@ -5,16 +5,15 @@ use Prim.Native.Nat.{ℕ}
 use mathlib.Core.Path.{_≡_, refl, sym, ap, _∙_, subst}
 use mathlib.Core.List.{List, _++_}
 use mathlib.Core.Bool.{false}
-use lib.ListN.{length, length-set}
+use lib.ListN.{length}
 use Rattle.calendar.specs.Banking.{tooOld}
 use Rattle.customer.specs.declared.Customer.{Customer}
 use Rattle.customer.specs.declared.Settings.{Settings}
 use Rattle.acceptance.specs.Stamps.{holdsStamp, stampOld}
-use Rattle.table.specs.Table.{Table, placeOf, customerIn, withCustomer, withSeed}
-use Rattle.table.specs.Named.{replacedAt, named, withNamed}
-use Rattle.table.specs.declared.Found.{Found}
-use Rattle.table.specs.declared.Found.the-variants.{At, Unknown}
-use Rattle.table.proofs.Places.{same-place}
+use Rattle.table.specs.Table.{Table, placeOf, customerIn, withSeed}
+use Rattle.table.specs.Named.{named}
+use Rattle.table.specs.declared.Found.the-variants.{At}
+use Rattle.table.proofs.Places.{same-place, with-named-at}
 use Rattle.register.proofs.Laws.{Kept}
 use Rattle.message.specs.Fields.{senderOf, stampOf}
 use Rattle.message.specs.declared.Kind.the-variants.{Esi, Suo, Var}
@@ -27,7 +26,7 @@ use Rattle.checks.specs.declared.Frame.{Frame}
 use Rattle.checks.specs.declared.Occasion.{Occasion}
 use Rattle.checks.proofs.Order.{NoneFails, accepted, none-left, none-right}
 use Rattle.checks.proofs.Parts.{esiKeys, typeChecks, esiParts, frameParts, esi-parts, frame-parts}
-use Rattle.verdict.proofs.Laws.{Accepted, Marked, esi-accepted, frame-accepted, esi-marked, frame-marked, esi-others, frame-others, esi-is, frame-is, with-named, who-is, record-who, named-stays, after-day}
+use Rattle.verdict.proofs.Laws.{Accepted, Marked, esi-accepted, frame-accepted, esi-marked, frame-marked, esi-others, frame-others, esi-is, frame-is, who-is, record-who, named-stays, after-day}
 
 -- the message m was accepted on the table t, and u is the table after it
 pub record Took (t u : Table) (m : List ℕ) : Type 0 where
@@ -103,7 +102,7 @@ module _ (t : Table) (o : Occasion) (m closing : List ℕ) (once : ℕ) where
   after-places a who =
       let c = recordAfter t o m closing once in
       seed-place _ _ who
-      ∙ ap (λ (u : Table). placeOf u who) (with-named t (senderOf m) (a .place) c (a .known))
+      ∙ ap (λ (u : Table). placeOf u who) (with-named-at t (senderOf m) (a .place) c (a .known))
       ∙ same-place t (a .place) c who (who-is t (senderOf m) (a .place) (a .known) c (record-who t o m closing once) 0)
 
 -- ---- both kinds

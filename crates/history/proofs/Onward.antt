@@ -20,13 +20,12 @@ use Rattle.acceptance.specs.Stamps.{holdsStamp, stampOld, stampDate}
 use Rattle.table.specs.Table.{Table, soundTable, placeOf, customerIn, withCustomer, withAdded, withDay, withSeed}
 use Rattle.table.specs.Named.{named, withNamed}
 use Rattle.table.specs.declared.Found.the-variants.{At}
-use Rattle.table.proofs.Places.{stored-is, found-is}
+use Rattle.table.proofs.Places.{stored-is, found-is, named-at, with-named-at, day-in, seed-in}
 use Rattle.table.proofs.Sound.{parts, unique}
 use Rattle.register.specs.Calls.{newCustomer, addedTo, enteredIn, orderedIn}
 use Rattle.register.specs.declared.Adding.{Adding}
 use Rattle.register.specs.declared.Entering.{Entering}
 use Rattle.register.specs.declared.Ordering.{Ordering}
-use Rattle.register.proofs.Rewritten.{named-at, with-named-at}
 use Rattle.register.proofs.Laws.{added-others, entered-others, ordered-others, added-keeps, entered-keeps, ordered-keeps}
 use Rattle.message.specs.Fields.{senderOf, stampOf}
 use Rattle.history.proofs.Accepts.{Took}
@@ -147,14 +146,6 @@ named-own t who i c p =
       ap (λ (u : Table). customerIn u i) e ∙ stored-is t i c (found-is t who i p .0),
       ap (λ (u : Table). length (u .customers)) e ∙ length-set (t .customers) i c,
     )
-
-day-in : (t : Table) (d j : ℕ) → customerIn (withDay t d) j ≡ customerIn t j
-unfolding customerIn withDay
-day-in t d j = refl
-
-seed-in : (t : Table) (v j : ℕ) → customerIn (withSeed t v) j ≡ customerIn t j
-unfolding customerIn withSeed
-seed-in t v j = refl
 
 pub opened-onward : (t : Table) (d : ℕ) → soundTable (withDay t d) ≡ true → earlier d (t .day) ≡ false → Onward t (withDay t d)
 unfolding withDay

@@ -21,6 +21,7 @@ use Rattle.session.specs.declared.Session.{Session}
 use Rattle.cutting.proofs.Keeps.{keeps-last, keeps-file}
 use Rattle.calls.specs.Reading.{Done, servedBy, awaits, finishes, endServed, endDone}
 use Rattle.calls.specs.Calls.{shownBy}
+use Rattle.refinement.proofs.Last.{given-append}
 use Rattle.protocol.specs.Protocol.{Saw, seenAt, sooner, Ends, again, last}
 use Rattle.protocol.proofs.Good.{EndGood, end-served, keeps-end-good, awaits-good}
 use Rattle.protocol.proofs.Lengths.{last-long, file-long}
@@ -59,11 +60,6 @@ module _ (s : Session) (w : List ℕ) where
   end-is room h g = subst (EndCase lastTurn fileTurn room) (sym (end-served s w room h g)) (end-case lastTurn fileTurn room)
 
 -- ---- what each shows
-
-given-append : (at : ℕ) (a b : List Answering) → givenAt at (a ++ b) ≡ givenAt at a ++ givenAt at b
-unfolding givenAt
-given-append at [] b = refl
-given-append at (x ∷ a) b = ap (λ (l : List Given). record { at = at; reply = replyOf x } ∷ l) (given-append at a b)
 
 module _ (at : ℕ) (s : Session) (w : List ℕ) (room : List ℕ) (h : 317 ≤ length room) (g : EndGood s w) where
   last-seen : (u : Session) (finished : Bool) → seenAt at (shownBy (servedBy (lastTurn s w) u 0 finished room)) ≡ givenAt at (saidBy (lastTurn s w))

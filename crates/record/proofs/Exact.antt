@@ -47,6 +47,12 @@ whole zero k = refl
 whole (suc zero) k = refl
 whole (suc (suc x)) k = absurd (omega arith)
 
+-- a byte that a flag is written as
+pub flag-small : (b : Bool) (x : List ℕ) → x ≡ bytesOf 1 (one b) → num x ≤ 1
+unfolding one
+flag-small true x h = omega (arith, ap num h ∙ num-bytes 1 1 (omega arith))
+flag-small false x h = omega (arith, ap num h ∙ num-bytes 1 0 (omega arith))
+
 module _ (l : List ℕ) (b : AllBytes l) where
   pub number-exact : (o w : ℕ) → o + w ≤ length l → bytesOf w (num (part o w l)) ≡ part o w l
   number-exact o w h = bytes-num-at w (part o w l) (part-length l o w h) (bytes-part o w l b)
@@ -184,16 +190,11 @@ module _ (l : List ℕ) (n : length l ≡ 1109) where
         let w = customer-wide (customerOf l) (part-length l 0 25 (omega arith)) (nums-length 8 64 (part 85 512 l)) (nums-length 8 64 (part 597 512 l)) in
         ap (λ (x : List ℕ). getD (parts 0 customerWidths x) k []) (sym e) ∙ field (customerFields (customerOf l)) customerWidths w k
 
-    small : (b : Bool) (x : List ℕ) → x ≡ bytesOf 1 (one b) → num x ≤ 1
-    unfolding one
-    small true x h = omega (arith, ap num h ∙ num-bytes 1 1 (omega arith))
-    small false x h = omega (arith, ap num h ∙ num-bytes 1 0 (omega arith))
-
     pub agreed-small : num (part 27 1 l) ≤ 1
-    agreed-small = small (customerOf l .agreed) (part 27 1 l) (fields 2)
+    agreed-small = flag-small (customerOf l .agreed) (part 27 1 l) (fields 2)
 
     pub leave-small : num (part 28 1 l) ≤ 1
-    leave-small = small (customerOf l .leave) (part 28 1 l) (fields 3)
+    leave-small = flag-small (customerOf l .leave) (part 28 1 l) (fields 3)
 
     previous-of : (o : ℕ) → o + 27 ≤ length l → part o 27 l ≡ pairBytes (pairOf (part o 27 l)) → ExactPrevious (o + 9) l
     previous-of o h f =

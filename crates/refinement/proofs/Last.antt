@@ -85,7 +85,7 @@ module _ (o : Opening) (st : Standing) where
 
 -- ---- what is said at the end
 
-given-append : (at : ℕ) (a b : List Answering) → givenAt at (a ++ b) ≡ givenAt at a ++ givenAt at b
+pub given-append : (at : ℕ) (a b : List Answering) → givenAt at (a ++ b) ≡ givenAt at a ++ givenAt at b
 unfolding givenAt
 given-append at [] b = refl
 given-append at (x ∷ a) b = ap (λ (l : List Given). record { at = at; reply = replyOf x } ∷ l) (given-append at a b)

@@ -21,7 +21,7 @@ use Rattle.table.specs.declared.Found.the-variants.{At, Unknown}
 use Rattle.table.specs.Named.{replacedAt, withNamed}
 use Rattle.table.specs.Written.{WrittenAs}
 use Rattle.table.specs.Decode.{tableOf, isTable}
-use Rattle.table.proofs.Places.{others-stay}
+use Rattle.table.proofs.Places.{others-stay, with-named-at, day-in, seed-in}
 use Rattle.conditions.specs.Refusals.{Refusal, refusal, lowest}
 use Rattle.register.specs.Calls.{leaves, newCustomer, newTable, addedTo, enteredIn, orderedIn, settingUpRefusals, settingUpAnswer, settingUpLeaves, addingRefusals, addingAnswer, addingLeaves, enteringRefusals, enteringAnswer, enteringLeaves, orderingRefusals, orderingAnswer, orderingLeaves}
 use Rattle.register.specs.declared.Setting.{Setting}
@@ -150,24 +150,16 @@ unfolding customerIn addedTo withDay withAdded
 added-others t a i h = List·getD-append (t .customers) (newCustomer a ∷ []) nobody i h
 
 named-others : (t : Table) (who : List ℕ) (i j : ℕ) (c : Customer) → placeOf t who ≡ At i → (i ≡ j → ⊥) → customerIn (withNamed t who c) j ≡ customerIn t j
-named-others t who i j c p n = ap (λ (u : Table). customerIn u j) (Rewritten.with-named-at t who i c p) ∙ others-stay t i j c n
-
-day-same : (t : Table) (d j : ℕ) → customerIn (withDay t d) j ≡ customerIn t j
-unfolding customerIn withDay
-day-same t d j = refl
-
-seed-same : (t : Table) (v j : ℕ) → customerIn (withSeed t v) j ≡ customerIn t j
-unfolding customerIn withSeed
-seed-same t v j = refl
+named-others t who i j c p n = ap (λ (u : Table). customerIn u j) (with-named-at t who i c p) ∙ others-stay t i j c n
 
 -- every customer but the one named is as before
 pub entered-others : (t : Table) (e : Entering) (i j : ℕ) → placeOf t (e .who) ≡ At i → (i ≡ j → ⊥) → customerIn (enteredIn t e) j ≡ customerIn t j
 unfolding enteredIn
-entered-others t e i j p n = day-same _ _ j ∙ named-others t (e .who) i j _ p n
+entered-others t e i j p n = day-in _ _ j ∙ named-others t (e .who) i j _ p n
 
 pub ordered-others : (t : Table) (o : Ordering) (i j : ℕ) → placeOf t (o .who) ≡ At i → (i ≡ j → ⊥) → customerIn (orderedIn t o) j ≡ customerIn t j
 unfolding orderedIn
-ordered-others t o i j p n = day-same _ _ j ∙ seed-same _ _ j ∙ named-others t (o .who) i j _ p n
+ordered-others t o i j p n = day-in _ _ j ∙ seed-in _ _ j ∙ named-others t (o .who) i j _ p n
 
 -- what stands in two tables alike: all settings but the seed, and the holidays
 pub record Kept (t u : Table) : Type 0 where

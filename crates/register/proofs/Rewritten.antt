@@ -21,7 +21,7 @@ use Rattle.table.specs.Named.{customerAt, replacedAt, named, withNamed}
 use Rattle.table.specs.Written.{encode, written}
 use Rattle.table.specs.Decode.{tableOf, isTable}
 use Rattle.table.specs.Stored.{dayStored, seedStored, customerStored}
-use Rattle.table.proofs.Places.{found-is}
+use Rattle.table.proofs.Places.{found-is, named-at, with-named-at}
 use Rattle.table.proofs.Sound
 use Rattle.table.proofs.Encode
 use Rattle.table.proofs.Decode
@@ -88,14 +88,6 @@ module _ (b x : List ℕ) (u : Table) (e : isTable b ≡ true) (s : soundTable u
       ∙ written-twice b u (withSeed u v) (seed-length u v s h)
 
 -- ---- the customer of a name
-
-pub named-at : (t : Table) (who : List ℕ) (i : ℕ) → placeOf t who ≡ At i → named t who ≡ customerIn t i
-unfolding named customerAt
-named-at t who i p = ap (customerAt t) p
-
-pub with-named-at : (t : Table) (who : List ℕ) (i : ℕ) (c : Customer) → placeOf t who ≡ At i → withNamed t who c ≡ withCustomer t i c
-unfolding withNamed replacedAt
-with-named-at t who i c p = ap (λ (f : Found). replacedAt t f c) p
 
 each-at : (l : List Customer) (i : ℕ) (d : Customer) → eachSound l ≡ true → i < length l → both (customerFits (getD l i d)) (soundCustomer (getD l i d)) ≡ true
 unfolding eachSound

@@ -33,6 +33,7 @@ use Rattle.table.proofs.Sound
 use Rattle.table.proofs.Encode
 use Rattle.table.proofs.Decode
 use Rattle.table.proofs.Stores
+use Rattle.table.proofs.Places.{is-unknown, known-at, named-at}
 use Rattle.conditions.specs.Refusals.{Refusal, refusal, lowest, noTable, badDay, tableFull, alreadyThere, noSuchCustomer, evenPart, checkDiffers, notNext, badLength}
 use Rattle.register.specs.Calls.{leaves, newCustomer, newTable, addedTo, enteredIn, orderedIn, settingUpRefusals, settingUpAnswer, settingUpLeaves, addingRefusals, addingAnswer, addingLeaves, enteringRefusals, enteringAnswer, enteringLeaves, orderingRefusals, orderingAnswer, orderingLeaves}
 use Rattle.conditions.specs.Length.{lengthOf}
@@ -134,11 +135,6 @@ pub record AddingServed (b : List ℕ) (a : Adding) : Type 0 where
   pub types : a .types < 2 ^ 16
   pub days : between 1 60 (lengthOf (a .length)) ≡ true
 
-is-unknown : (f : Found) → isUnknown f ≡ true → f ≡ Unknown
-unfolding isUnknown
-is-unknown (At i) e = let z : _≡_ {A = Bool} false true = e in cc
-is-unknown Unknown e = refl
-
 good-length : (l : Length) → badLength l ≡ false → between 1 60 (lengthOf l) ≡ true
 unfolding badLength lengthOf
 good-length (Given n) e = fails-false _ e
@@ -203,11 +199,6 @@ module _ (b : List ℕ) (a : Adding) (z : addingAnswer b a ≡ 0) (n : length (a
 
 -- ---- a customer that is there
 
-there : (f : Found) → isUnknown f ≡ false → (i : ℕ) × (f ≡ At i)
-unfolding isUnknown
-there (At i) e = (i, refl)
-there Unknown e = let z : _≡_ {A = Bool} true false = e in (0, cc)
-
 apart : (f : Found) → ((i : ℕ) × (f ≡ At i)) → f ≡ Unknown → ⊥
 apart f p q = let e = p .1 in let z : _≡_ {A = ℕ} 0 1 = cc in omega arith
 
@@ -232,7 +223,7 @@ entering-served b e z =
       table = o .table;
       real = o .real;
       day = o .day;
-      place = there _ (f .0);
+      place = known-at _ (f .0);
       next = sym (eqb-true _ _ (fails-false _ (i .0)));
     }
 
@@ -277,7 +268,7 @@ module _ (b : List ℕ) (e : Entering) (z : enteringAnswer b e ≡ 0) where
   unfolding enteredIn
   entered-is i d k c x y p l m n q r =
       let is : c ≡ entered =
-      n ∙ ap₂ (λ (v : Customer) (j : ℕ). withTransport v (e .generation) j (e .today .yymmdd)) (l ∙ sym (Rewritten.named-at (tableOf b) (e .who) i p)) m in
+      n ∙ ap₂ (λ (v : Customer) (j : ℕ). withTransport v (e .generation) j (e .today .yymmdd)) (l ∙ sym (named-at (tableOf b) (e .who) i p)) m in
       let w : x ≡ written b (withNamed (tableOf b) (e .who) entered) =
       q ∙ ap (customerStored b i) is ∙ Rewritten.stored-named b (s-enter .table) (e .who) i p entered entered-fits in
       r ∙ day-after b x _ (s-enter .table) with-entered w _ (s-enter .real) ∙ sym enter-leaves
@@ -301,7 +292,7 @@ ordering-served b o z =
       table = p .table;
       real = p .real;
       day = p .day;
-      place = there _ (served 7 _ _ refl (p .rest) .0);
+      place = known-at _ (served 7 _ _ refl (p .rest) .0);
     }
 
 module _ (b : List ℕ) (o : Ordering) (z : orderingAnswer b o ≡ 0) where
@@ -361,7 +352,7 @@ module _ (b : List ℕ) (o : Ordering) (z : orderingAnswer b o ≡ 0) where
       let made-is : k ≡ made = u .0 ∙ ap (λ (j : Settings). keyOf (j .maker .key) (j .maker .seed) (o .clock)) h in
       let m : v ≡ moved = u .1 ∙ ap (λ (j : Settings). nextSeed (j .maker .key) (j .maker .seed) (o .clock)) h in
       let is : c ≡ ordered =
-      n ∙ ap₂ (λ (z : Customer) (j : ℕ). withWorking z j (o .today .yymmdd)) (l ∙ sym (Rewritten.named-at (tableOf b) (o .who) i p)) made-is in
+      n ∙ ap₂ (λ (z : Customer) (j : ℕ). withWorking z j (o .today .yymmdd)) (l ∙ sym (named-at (tableOf b) (o .who) i p)) made-is in
       let x-is : x ≡ written b (withNamed (tableOf b) (o .who) ordered) =
       q ∙ ap (customerStored b i) is ∙ Rewritten.stored-named b (s-order .table) (o .who) i p ordered ordered-fits in
       let y-is : y ≡ written b (withSeed (withNamed (tableOf b) (o .who) ordered) moved) =

@@ -10,36 +10,9 @@ use lib.ListN.{length, take, drop, length-append, length-take, length-drop, drop
 use lib.Seq.{length-take-le, take-at, drop-drop, drop-append-add, take-all, paste-zero}
 use Rattle.ground.specs.Lists.{overlay}
 use Rattle.text.specs.Characters.{blank}
-use Rattle.reply.specs.Putting.{splice, Put}
-
-module _ (at : ℕ) (v l : List ℕ) (h : at + length v ≤ length l) where
-  front-length : length (take at l ++ v) ≡ at + length v
-  front-length = length-append (take at l) v ∙ ap (λ (k : ℕ). k + length v) (length-take-le at l (omega arith))
-
-  splice-length : length (splice at v l) ≡ length l
-  unfolding splice
-  splice-length = simp (length-append, length-take, length-drop) (omega arith)
-
-  splice-drop : (n : ℕ) → at + length v ≤ n → drop n (splice at v l) ≡ drop n l
-  unfolding splice
-  splice-drop n k =
-      let m : ℕ = n - (at + length v) in
-      let e : n ≡ (at + length v) + m = omega arith in
-      ap (λ (j : ℕ). drop j (splice at v l)) (e ∙ ap (λ (j : ℕ). j + m) (sym front-length))
-      ∙ drop-append-add (take at l ++ v) (drop (at + length v) l) m
-      ∙ drop-drop m (at + length v) l
-      ∙ ap (λ (j : ℕ). drop j l) (sym e)
-
-splice-splice : (at : ℕ) (v w l : List ℕ) (n : ℕ) → n ≡ at + length v → n + length w ≤ length l → splice n w (splice at v l) ≡ splice at (v ++ w) l
-unfolding splice
-splice-splice at v w l n e h =
-    let k : at + length v ≤ length l = omega arith in
-    let q : n + length w ≡ at + length (v ++ w) = omega (arith, length-append v w) in
-    ap (λ (r : List ℕ). r ++ w ++ drop (n + length w) (splice at v l))
-    (take-at (take at l ++ v) (drop (at + length v) l) n (front-length at v l k ∙ sym e))
-    ∙ ap (λ (r : List ℕ). take at l ++ v ++ w ++ r) (splice-drop at v l k (n + length w) (omega arith))
-    ∙ ap (λ (r : List ℕ). r ++ drop (n + length w) l) (append-assoc (take at l) v w)
-    ∙ ap (λ (j : ℕ). take at l ++ (v ++ w) ++ drop j l) q
+use Rattle.splices.specs.Bytes.{splice}
+use Rattle.splices.proofs.Splice.{splice-length, splice-splice}
+use Rattle.reply.specs.Putting.{Put}
 
 -- ---- one part, and a part after a part
 

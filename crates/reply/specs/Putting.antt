@@ -4,15 +4,12 @@ use Prim.Native.Nat.{ℕ, _+_}
 use mathlib.Core.Path.{_≡_}
 use mathlib.Core.Bool.{Bool}
 use mathlib.Core.List.{List, _++_}
-use lib.ListN.{length, take, drop}
+use lib.ListN.{length}
 use Rattle.ground.specs.Choice.{pick}
 use Rattle.text.specs.Letters.{letters}
 use Rattle.text.specs.Numbers.{decimalDigits}
+use Rattle.splices.specs.Bytes.{splice}
 use Rattle.notice.specs.Codes.{codeIn, codes}
-
--- l with v in the place of as many characters from `at` on
-unfoldable pub splice : ℕ → List ℕ → List ℕ → List ℕ
-splice at v l = take at l ++ v ++ drop (at + length v) l
 
 -- v was written at a place of the room, and the next place is where it ends
 pub record Put (at : ℕ) (v room later : List ℕ) (next : ℕ) : Type 0 where

@@ -18,7 +18,7 @@ use Rattle.splices.proofs.Fields.{parts, join-parts}
 use Rattle.record.proofs.Widths.{byte-one}
 use Rattle.record.proofs.Places.{num-in}
 use Rattle.record.proofs.Back.{field}
-use Rattle.record.proofs.Exact.{differ, agree, number-exact, flag-exact}
+use Rattle.record.proofs.Exact.{differ, agree, number-exact, flag-exact, flag-small}
 use Rattle.session_bytes.specs.Session.{sessionSize, placeNumber, placeNumbered, kindNumber, keyBytes, keyOf, stateBytes, stateOf, sessionBytes, sessionOf, isSession}
 use Rattle.session_bytes.specs.Groups.{Flags}
 use Rattle.session_bytes.proofs.Widths.{stateWidths, sessionFields, sessionWidths, session-wide}
@@ -155,20 +155,15 @@ module _ (l : List ℕ) (n : length l ≡ sessionSize) where
         let w = session-wide (sessionOf l) (part-length l 32 25 (omega arith)) (part-length l 67 161 (omega arith)) (part-length l 233 161 (omega arith)) in
         ap (λ (x : List ℕ). getD (parts 0 sessionWidths x) k []) (sym e) ∙ field (sessionFields (sessionOf l)) sessionWidths w k
 
-    small : (b : Bool) (x : List ℕ) → x ≡ bytesOf 1 (one b) → num x ≤ 1
-    unfolding one
-    small true x h = omega (arith, ap num h ∙ num-bytes 1 1 (omega arith))
-    small false x h = omega (arith, ap num h ∙ num-bytes 1 0 (omega arith))
-
     pub flags-small : Flags l
     flags-small =
         record {
-          opened = small (sessionOf l .opened) (part 0 1 l) (fields 0);
-          ended = small (sessionOf l .ended) (part 1 1 l) (fields 1);
-          told = small (sessionOf l .told) (part 2 1 l) (fields 2);
-          cr = small (sessionOf l .line .cr) (part 61 1 l) (fields 11);
-          over = small (sessionOf l .gathered .blank) (part 66 1 l) (fields 13);
-          suo = small (sessionOf l .batch .suo .blank) (part 232 1 l) (fields 16);
+          opened = flag-small (sessionOf l .opened) (part 0 1 l) (fields 0);
+          ended = flag-small (sessionOf l .ended) (part 1 1 l) (fields 1);
+          told = flag-small (sessionOf l .told) (part 2 1 l) (fields 2);
+          cr = flag-small (sessionOf l .line .cr) (part 61 1 l) (fields 11);
+          over = flag-small (sessionOf l .gathered .blank) (part 66 1 l) (fields 13);
+          suo = flag-small (sessionOf l .batch .suo .blank) (part 232 1 l) (fields 16);
         }
 
     pub place-in : num (part 3 1 l) ≤ 6

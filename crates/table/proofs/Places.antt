@@ -14,7 +14,8 @@ use Rattle.ground.proofs.Choices.{left, right, join, picks, skips, same-eq, eq-
 use Rattle.text.proofs.Lists.{refuted}
 use Rattle.customer.specs.Customer.{soundCustomer}
 use Rattle.customer.specs.declared.Customer.{Customer}
-use Rattle.table.specs.Table.{Table, placeFrom, isUnknown, distinct, customerFits, eachSound, placeOf, nobody, customerIn, withCustomer}
+use Rattle.table.specs.Table.{Table, placeFrom, isUnknown, distinct, customerFits, eachSound, placeOf, nobody, customerIn, withCustomer, withDay, withSeed}
+use Rattle.table.specs.Named.{customerAt, replacedAt, named, withNamed}
 use Rattle.table.specs.declared.Found.{Found}
 use Rattle.table.specs.declared.Found.the-variants.{At, Unknown}
 
@@ -56,10 +57,15 @@ unknown-any (c ∷ l) j k x = go (same (c .who) x) (unknown-any l (j + 1) (k + 1
     go true r = refl
     go false r = r
 
-is-unknown : (f : Found) → isUnknown f ≡ true → f ≡ Unknown
+pub is-unknown : (f : Found) → isUnknown f ≡ true → f ≡ Unknown
 unfolding isUnknown
 is-unknown (At i) e = let z : _≡_ {A = Bool} false true = e in cc
 is-unknown Unknown e = refl
+
+pub known-at : (f : Found) → isUnknown f ≡ false → (i : ℕ) × (f ≡ At i)
+unfolding isUnknown
+known-at (At i) e = (i, refl)
+known-at Unknown e = let z : _≡_ {A = Bool} true false = e in (0, cc)
 
 unknown-is : (f : Found) → f ≡ Unknown → isUnknown f ≡ true
 unfolding isUnknown
@@ -176,3 +182,23 @@ unique-from t i a h =
 pub unknown-of : (t : Table) (who : List ℕ) → placeOf t who ≡ Unknown → isUnknown (placeFrom 0 who (t .customers)) ≡ true
 unfolding placeOf
 unknown-of t who e = unknown-is _ e
+
+-- ---- the customer who is named
+
+pub named-at : (t : Table) (who : List ℕ) (i : ℕ) → placeOf t who ≡ At i → named t who ≡ customerIn t i
+unfolding named customerAt
+named-at t who i p = ap (customerAt t) p
+
+pub with-named-at : (t : Table) (who : List ℕ) (i : ℕ) (c : Customer) → placeOf t who ≡ At i → withNamed t who c ≡ withCustomer t i c
+unfolding withNamed replacedAt
+with-named-at t who i c p = ap (λ (f : Found). replacedAt t f c) p
+
+-- ---- another day and another seed leave every customer
+
+pub day-in : (t : Table) (d j : ℕ) → customerIn (withDay t d) j ≡ customerIn t j
+unfolding customerIn withDay
+day-in t d j = refl
+
+pub seed-in : (t : Table) (v j : ℕ) → customerIn (withSeed t v) j ≡ customerIn t j
+unfolding customerIn withSeed
+seed-in t v j = refl

@@ -1,6 +1,6 @@
 -- What acceptance keeps of a record, and that its numbers fit: each answer leaves the record as it was but for its working keys.
 -- Assumes nothing.
-use mathlib.Core.Path.{_≡_, refl}
+use mathlib.Core.Path.{_≡_, refl, ap, _∙_}
 use mathlib.Core.Bool.{Bool, true, false}
 use mathlib.Core.List.{List, [], _∷_, _++_}
 use Prim.Native.Nat.{ℕ, zero, suc, _+_, _^_, _<_}
@@ -15,39 +15,12 @@ use Rattle.keys.proofs.Laws.{made-lt, seed-lt}
 use Rattle.customer.specs.declared.Customer.{Customer}
 use Rattle.customer.specs.declared.KeyPair.{KeyPair}
 use Rattle.changeover.specs.Changes.{changed, withKeys, withWorking, withoutPrevious}
-use Rattle.changeover.specs.declared.Key.{Key}
-use Rattle.changeover.specs.declared.Key.the-variants.{Missing}
-use Rattle.acceptance.specs.Grants.{granted, underPrevious, newKey, underCurrent, grantedBy}
+use Rattle.acceptance.specs.Grants.{grantedBy}
 use Rattle.acceptance.specs.Stamps.{liveOf, liveOnce, inPlaces, withStamp}
 use Rattle.acceptance.specs.declared.Granted.{Granted}
+use Rattle.acceptance.proofs.Grants.{by-answer}
 use Rattle.acceptance.proofs.Purge.{stamps-length, once-length}
 use Rattle.table.specs.Table.{word, previousFits, pairFits, customerFits}
-
-chosen : (P : Granted → Type 0) (t : Bool) (a b : Granted) → P a → P b → P (pick t a b)
-unfolding pick
-chosen P true a b p q = p
-chosen P false a b p q = q
-
--- what holds of the record as it was, without its previous working key, and with a new one, holds of what is granted
-module _ (c : Customer) (maker : KeyMaker) (clock today generation request : ℕ) where
-  module _ (P : Granted → Type 0)
-      (same : (code : ℕ) (key : Key) → P (granted code c key 0 (maker .seed)))
-      (dropped : P (granted 1036 (withoutPrevious c) Missing 0 (maker .seed)))
-      (renewed : P (newKey c maker clock today)) where
-    by-previous : P (underPrevious c maker request)
-    unfolding underPrevious
-    by-previous = chosen P _ _ _ (same 1002 _) (chosen P _ _ _ (same 1003 _) (same 1037 _))
-
-    by-current : P (underCurrent c maker clock today request)
-    unfolding underCurrent
-    by-current =
-        chosen P _ _ _ (same 1001 _)
-        (chosen P _ _ _ (chosen P _ _ _ (same 1004 _) (chosen P _ _ _ (same 1005 _) renewed))
-        (chosen P _ _ _ dropped (same 1037 _)))
-
-    by-answer : P (grantedBy c maker clock today generation request)
-    unfolding grantedBy
-    by-answer = chosen P _ _ _ by-current by-previous
 
 -- ---- what stays
 
@@ -66,12 +39,12 @@ keys-kept c working = record { who = refl; types = refl; agreed = refl; leave = 
 
 pub grant-kept : (c : Customer) (maker : KeyMaker) (clock today generation request : ℕ)
     → Kept c (grantedBy c maker clock today generation request .customer)
-unfolding withWorking withoutPrevious newKey
+unfolding withWorking withoutPrevious
 grant-kept c maker clock today generation request =
     by-answer c maker clock today generation request (λ (g : Granted). Kept c (g .customer))
-    (λ code key. record { who = refl; types = refl; agreed = refl; leave = refl; length = refl; transport = refl })
+    (λ code key m w. record { who = refl; types = refl; agreed = refl; leave = refl; length = refl; transport = refl })
     (keys-kept c _)
-    (keys-kept c _)
+    (λ key e. keys-kept c _)
 
 pub stamp-keeps : (hs : List ℕ) (today : ℕ) (a c : Customer) (stamp once : ℕ) → Kept a c → Kept a (withStamp hs today c stamp once)
 unfolding withStamp
@@ -107,20 +80,19 @@ working-fits c e = right _ _ (right _ _ (right _ _ (right _ _ (right _ _ e))))
 
 pub grant-fits : (c : Customer) (maker : KeyMaker) (clock today generation request : ℕ) → customerFits c ≡ true
     → customerFits (grantedBy c maker clock today generation request .customer) ≡ true
-unfolding withWorking withoutPrevious newKey changed previousFits
+unfolding withWorking withoutPrevious changed previousFits
 grant-fits c maker clock today generation request f =
     let k : word (c .working .key) ≡ true = left _ _ (working-fits c f) in
     by-answer c maker clock today generation request (λ (g : Granted). customerFits (g .customer) ≡ true)
-    (λ code key. f)
+    (λ code key m w. f)
     (with-keys-fits c _ f (join _ _ k refl))
-    (with-keys-fits c _ f (join _ _ (word-true _ (made-lt (record { key = maker .key; seed = maker .seed }) clock)) k))
+    (λ key e. with-keys-fits c _ f (join _ _ (ap word e ∙ word-true _ (made-lt (record { key = maker .key; seed = maker .seed }) clock)) k))
 
 pub grant-seed-lt : (c : Customer) (maker : KeyMaker) (clock today generation request : ℕ) → maker .seed < 2 ^ 64
     → grantedBy c maker clock today generation request .seed < 2 ^ 64
-unfolding newKey
 grant-seed-lt c maker clock today generation request h =
     by-answer c maker clock today generation request (λ (g : Granted). g .seed < 2 ^ 64)
-    (λ code key. h) h (seed-lt (record { key = maker .key; seed = maker .seed }) clock)
+    (λ code key m w. h) h (λ key e. seed-lt (record { key = maker .key; seed = maker .seed }) clock)
 
 -- ---- lists of such numbers
 

@@ -20,7 +20,7 @@ use Rattle.table.specs.Named.{customerAt, replacedAt, named, withNamed}
 use Rattle.table.specs.Decode.{tableOf}
 use Rattle.table.specs.declared.Found.{Found}
 use Rattle.table.specs.declared.Found.the-variants.{At, Unknown}
-use Rattle.table.proofs.Places.{others-stay, stored-is, same-place, found-is}
+use Rattle.table.proofs.Places.{others-stay, stored-is, same-place, found-is, named-at, with-named-at, seed-in, known-at}
 use Rattle.message.specs.Rules.{faultOf}
 use Rattle.message.specs.Fields.{senderOf, stampOf}
 use Rattle.message.specs.declared.Kind.{Kind}
@@ -70,14 +70,6 @@ frame-e-leaves b o f c n e = bytes-found _ c n _ _ e
 
 -- ---- the customer who is named
 
-pub named-at : (t : Table) (who : List ℕ) (i : ℕ) → placeOf t who ≡ At i → named t who ≡ customerIn t i
-unfolding named customerAt
-named-at t who i e = ap (customerAt t) e
-
-pub with-named : (t : Table) (who : List ℕ) (i : ℕ) (c : Customer) → placeOf t who ≡ At i → withNamed t who c ≡ withCustomer t i c
-unfolding withNamed replacedAt
-with-named t who i c e = ap (λ (f : Found). replacedAt t f c) e
-
 seed-at : (t : Table) (v : ℕ) (f : Found) → customerAt (withSeed t v) f ≡ customerAt t f
 unfolding customerAt customerIn withSeed
 seed-at t v (At i) = refl
@@ -86,10 +78,6 @@ seed-at t v Unknown = refl
 seed-named : (t : Table) (v : ℕ) (who : List ℕ) → named (withSeed t v) who ≡ named t who
 unfolding named placeOf withSeed
 seed-named t v who = seed-at t v (placeOf t who)
-
-seed-in : (t : Table) (v j : ℕ) → customerIn (withSeed t v) j ≡ customerIn t j
-unfolding customerIn withSeed
-seed-in t v j = refl
 
 replaced-others : (t : Table) (f : Found) (c : Customer) (j : ℕ) → (f ≡ At j → ⊥) → customerIn (replacedAt t f c) j ≡ customerIn t j
 unfolding replacedAt
@@ -108,7 +96,7 @@ module _ (t : Table) (who : List ℕ) (i : ℕ) (e : placeOf t who ≡ At i) (c 
   pub named-after : named (withSeed (withNamed t who c) v) who ≡ c
   named-after =
       seed-named (withNamed t who c) v who
-      ∙ ap (λ (u : Table). named u who) (with-named t who i c e)
+      ∙ ap (λ (u : Table). named u who) (with-named-at t who i c e)
       ∙ named-at (withCustomer t i c) who i (same-place t i c who who-is ∙ e)
       ∙ stored-is t i c (found-is t who i e .0)
 
@@ -120,11 +108,6 @@ pub record Accepted (t : Table) (today : ℕ) (m : List ℕ) : Type 0 where
   pub known : placeOf t (senderOf m) ≡ At place
   pub room : length (liveStamps (t .holidays) today (named t (senderOf m))) < 64
   pub real : length m ≡ 161 → realStamp (stampOf m) ≡ true
-
-known-at : (f : Found) → isUnknown f ≡ false → (i : ℕ) × (f ≡ At i)
-unfolding isUnknown
-known-at (At i) e = (i, refl)
-known-at Unknown e = absurd (let z : _≡_ {A = ℕ} 0 1 = cc in omega arith)
 
 party-known : (t : Table) (m : List ℕ) → NoneFails (partyChecks t m) → (i : ℕ) × (placeOf t (senderOf m) ≡ At i)
 unfolding partyChecks

@@ -23,7 +23,7 @@ use Rattle.table.specs.Written.{encode, written}
 use Rattle.table.specs.Decode.{tableOf, isTable}
 use Rattle.table.specs.Stored.{seedStored}
 use Rattle.table.specs.declared.Found.{Found}
-use Rattle.table.proofs.Places.{found-is}
+use Rattle.table.proofs.Places.{found-is, named-at, with-named-at}
 use Rattle.table.proofs.Sound.{parts, sound-with, sound-seed}
 use Rattle.table.proofs.Encode.{encode-length, sound-fit}
 use Rattle.table.proofs.Decode.{is-written, rewritten-is}
@@ -38,7 +38,7 @@ use Rattle.checks.specs.declared.Frame.{Frame}
 use Rattle.checks.specs.declared.Occasion.{Occasion}
 use Rattle.checks.proofs.Order.{NoneFails}
 use Rattle.verdict.proofs.Keeps.{grant-fits, grant-seed-lt, stamp-fits}
-use Rattle.verdict.proofs.Laws.{Accepted, esi-accepted, frame-accepted, frame-passed, named-at, with-named, who-is, record-who, room-after}
+use Rattle.verdict.proofs.Laws.{Accepted, esi-accepted, frame-accepted, frame-passed, who-is, record-who, room-after}
 
 -- ---- a table written over bytes
 
@@ -133,7 +133,7 @@ module _ (b : List ℕ) (e : isTable b ≡ true) (o : Occasion) (m closing : Lis
   unfolding tableAfter
   after-is =
       ap (λ (u : Table). withSeed u (grantTo (tableOf b) o m closing .seed))
-      (with-named (tableOf b) (senderOf m) (a .place) (recordAfter (tableOf b) o m closing once) (a .known))
+      (with-named-at (tableOf b) (senderOf m) (a .place) (recordAfter (tableOf b) o m closing once) (a .known))
 
   seeded-sound : soundTable (withSeed stored (grantTo (tableOf b) o m closing .seed)) ≡ true
   seeded-sound = sound-seed stored _ stored-sound granted-seed

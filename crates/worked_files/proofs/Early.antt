@@ -35,7 +35,8 @@ use Rattle.answers.specs.Answers.{bareAnswer, verdictAnswer}
 use Rattle.whole.specs.WholeFile.{moved, silent, replies, esiSays, pteSays, occasion, afterEsi, esiEnds, suoEnds, frameOf, varEnds, esiGoesOn, suoGoesOn, varGoesOn, esiStarts, suoStarts, varStarts, firstRecord, outsideRecord, withRecord, frameRecord, recordIn, pastIn, endIn, givenAt, sooner, toldOf, atStart, wholeFile}
 use Rattle.whole.specs.Messages.{begins, aloneOf, wantsMore, collectedAs, oneTime, oneTimeOf}
 use Rattle.whole.specs.Records.{withoutCr, lastItem, grown, endedBy, itemsFrom}
-use Rattle.worked_files.specs.Files.{hello, bank, shown, answers, line, esi, goesOn, holdAll}
+use Rattle.worked_files.specs.Files.{hello, bank, shown, answers, line, esi, goesOn}
+use Rattle.worked.specs.Examples.{holdAll}
 use Rattle.worked_files.specs.Files.{earlyFiles}
 
 pub early-files : holdAll earlyFiles ≡ true

@@ -130,7 +130,3 @@ laterFiles =
     answers (esi ++ (cr ∷ [])) (162 ∷ 237 ∷ 1010 ∷ []) ∷
     -- a message over several records, and blanks over in the last one
     answers (take 80 esi ++ (lf ∷ []) ++ drop 80 esi ++ letters "  " ++ (lf ∷ [])) (165 ∷ 237 ∷ 1001 ∷ []) ∷ []
-
-unfoldable pub holdAll : List Bool → Bool
-holdAll [] = true
-holdAll (b ∷ l) = both b (holdAll l)

@@ -7,7 +7,7 @@ use Rattle.changeover.specs.Held.{changing}
 use Rattle.conditions.specs.Refusals.{lowest, noTable}
 use Rattle.register.specs.Calls.{orderingRefusals, orderingAnswer}
 use Rattle.conditions.proofs.Refused.{lowest-first, lowest-next, none-left, said, unsaid, not-there, is-there}
-use Rattle.register.proofs.Rewritten.{named-at}
+use Rattle.table.proofs.Places.{named-at}
 use borrow.Author.Needs.{needs}
 use Rattle.register.proofs.ordering_refusal.Statement.{statement}
 use Rattle.register.proofs.ordering_refusal.Tie as tie
