@@ -6,10 +6,9 @@ use mathlib.Core.Bool.{Bool, true, false, not}
 use Prim.Native.Nat.{ℕ, _<_, _≤_}
 use native.Mathlib.Omega.{arith}
 use borrow.Author.Tests.{ltb-true, ltb-false, eq-eqb, ne-eqb}
-use lib.Dec.{eqb, ltb, leb}
-use lib.ListN.{length}
-use Rattle.ground.specs.Choice.{both, either, fails, pick, between}
-use Rattle.ground.proofs.Choices.{picks, skips, either-left, either-right, either-decides, between-in, between-below, between-above}
+use lib.Dec.{eqb, ltb}
+use Rattle.ground.specs.Choice.{either, fails, between}
+use Rattle.ground.proofs.Choices.{picks, skips, either-left, either-decides, between-in, between-below, between-above}
 use Rattle.customer.proofs.Chain.{turned}
 use Rattle.calendar.specs.Dates.{realDate, earlier}
 use Rattle.table.specs.Table.{Table, placeOf, isUnknown}

@@ -1,16 +1,16 @@
 -- When a call can't be served: each condition in document 01's words ('Call refusals'), apart from the walk that picks the lowest.
 -- Assumes nothing.
-use Prim.Native.Nat.{ℕ, _+_}
-use mathlib.Core.Bool.{Bool, true, false}
+use Prim.Native.Nat.{ℕ}
+use mathlib.Core.Bool.{Bool, false}
 use mathlib.Core.List.{List, [], _∷_}
-use lib.Dec.{eqb, ltb, leb}
+use lib.Dec.{eqb, leb}
 use lib.ListN.{length}
-use Rattle.ground.specs.Choice.{both, either, fails, pick, between}
+use Rattle.ground.specs.Choice.{either, fails, pick, between}
 use Rattle.calendar.specs.Dates.{realDate, earlier}
 use Rattle.keys.specs.Parity.{oddParity}
 use Rattle.keys.specs.Keys.{combined, checkValue, nextGeneration}
 use Rattle.table.specs.Table.{Table, placeOf, isUnknown}
-use Rattle.table.specs.Decode.{tableOf, isTable}
+use Rattle.table.specs.Decode.{isTable}
 use Rattle.conditions.specs.declared.Length.{Length}
 use Rattle.conditions.specs.declared.Length.the-variants.{Given, LeftOut}
 

@@ -7,16 +7,15 @@ use mathlib.Core.Logic.{_⊎_, inl, inr, ⊎-elim}
 use Prim.Native.Nat.{ℕ, zero, suc, _+_, _-_, _*_, _%_, _^_, _≤_, _<_}
 use native.Mathlib.Nat.{le-of-suc-le-suc, not-suc-le-zero, lt-of-lt-of-le, mod-eq-of-lt, mul-assoc, mul-le-mul-right, mul-lt-mul-of-pos-right, one-le-pow, pow-succ', pow-le-pow-right, add-zero}
 use native.Mathlib.Omega.{arith}
-use borrow.Author.Tests.{eqb-true, eqb-false, ltb-true, eq-eqb, ne-eqb}
+use borrow.Author.Tests.{eqb-true, eqb-false, eq-eqb, ne-eqb}
 use lib.Bits.{bitXor}
-use lib.Dec.{eqb, ltb}
+use lib.Dec.{eqb}
 use lib.ListN.{length, take, replicate, length-append}
 use lib.Pow.{pow-add}
 use lib.Seq.{take-at, drop-at, take-append-add, append-snoc}
-use Rattle.ground.specs.Choice.{both}
-use Rattle.ground.specs.Lists.{all, member}
-use Rattle.ground.proofs.Choices.{left, right, either-cases, picks, skips, between-true}
-use Rattle.text.specs.Characters.{blank, small, marks, fieldCharacter, internal}
+use Rattle.ground.proofs.Choices.{picks, skips, between-true}
+use Rattle.text.specs.Characters.{small, fieldCharacter, internal}
+use Rattle.text.proofs.Laws.{field-lt}
 use Rattle.text.proofs.Lists.{picked}
 use Rattle.des.proofs.Laws.{Each, none, more}
 use Rattle.digest.specs.Mac.{bytesFrom, blockOf, blocksFrom, blockCount, blocks, chained, mac}
@@ -27,22 +26,6 @@ use Rattle.digest.specs.declared.State.{State}
 use Rattle.digest.proofs.Folds.{fed-eighth, fed-other, fed-count, closed-full, closed-short}
 
 -- ---- the internal code gives bytes, whatever it is asked of
-
-member-lt : (n x : ℕ) (l : List ℕ) → all (λ y. ltb y n) l ≡ true → member x l ≡ true → x < n
-unfolding all member
-member-lt n x [] a m = let z : _≡_ {A = ℕ} 0 1 = cc in omega arith
-member-lt n x (y ∷ l) a m =
-    ⊎-elim (λ e. rw (eqb-true y x e) at (ltb-true y n (left _ _ a))) (λ e. member-lt n x l (right _ _ a) e)
-    (either-cases (eqb y x) (member x l) m)
-
-field-lt : (x : ℕ) → fieldCharacter x ≡ true → x < 256
-unfolding fieldCharacter all both
-field-lt x f =
-    ⊎-elim (λ e. omega (arith, between-true 0x41 0x5A x e))
-    (λ f. ⊎-elim (λ e. omega (arith, between-true 0x30 0x39 x e))
-    (λ f. ⊎-elim (λ e. omega (arith, eqb-true x blank e)) (λ e. member-lt 256 x marks refl e) (either-cases _ _ f))
-    (either-cases _ _ f))
-    (either-cases _ _ f)
 
 pub internal-byte : (x : ℕ) → internal x < 256
 unfolding internal

@@ -14,7 +14,7 @@ use Rattle.register.specs.declared.Entering.{Entering}
 use Rattle.register.specs.declared.Ordering.{Ordering}
 use Rattle.answers.specs.declared.Opening.{Opening}
 use Rattle.session_bytes.specs.Session.{sessionSize, sessionIn, sessionStored}
-use Rattle.calls.specs.Reading.{Done, openingGives, readDone, endDone}
+use Rattle.calls.specs.Reading.{Done, readDone, endDone}
 use Rattle.calls.specs.declared.OpenAnswer.{OpenAnswer}
 use Rattle.calls.specs.declared.Answer.{Answer}
 

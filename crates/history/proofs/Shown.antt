@@ -2,22 +2,21 @@
 -- Assumes nothing.
 use Prim.Native.Nat.{ℕ, _≤_}
 use mathlib.Core.Path.{_≡_, refl, sym, ap, _∙_}
-use mathlib.Core.List.{List, [], _∷_, _++_}
+use mathlib.Core.List.{List, [], _∷_}
 use mathlib.Core.Bool.{Bool, true, false, false≢true}
 use native.Mathlib.Omega.{arith}
-use borrow.Author.Tests.{le-leb, eq-eqb, ne-eqb}
-use lib.Dec.{eqb, leb}
-use lib.ListN.{length, take, drop}
-use lib.Seq.{take-all, take-at}
+use borrow.Author.Tests.{eq-eqb, ne-eqb}
+use lib.Dec.{eqb}
+use lib.ListN.{length, take}
 use Rattle.ground.specs.Choice.{pick}
-use Rattle.ground.specs.Lists.{part, overlay}
+use Rattle.ground.specs.Lists.{part}
 use Rattle.ground.proofs.Choices.{picks, skips, same-eq, eq-same}
-use Rattle.text.proofs.Lists.{refuted, picked}
+use Rattle.text.proofs.Lists.{refuted}
 use Rattle.message.specs.Layout.{fieldText, offsetIn, widthIn}
 use Rattle.message.specs.Fields.{receiverOf, senderOf, stampTextOf}
 use Rattle.reply.specs.Reply.{replyOf, replyLength, replied, writtenLength}
 use Rattle.reply.specs.declared.Answering.{Answering}
-use Rattle.reply.proofs.Laws.{least-length, reply-length, reply-success, reply-sender, reply-stamp}
+use Rattle.reply.proofs.Laws.{least-length, reply-length, written-whole, stands-whole, reply-success, reply-sender, reply-stamp}
 use Rattle.session.specs.Events.{Turn}
 use Rattle.session.specs.declared.Session.{Session}
 use Rattle.calls.specs.Reading.{servedBy, roomAfter, lengthOf}
@@ -28,29 +27,15 @@ use Rattle.history.proofs.Effects.{Sized}
 
 -- ---- the room
 
-most-length : (a : Answering) → replyLength a ≤ 317
-unfolding replyLength
-most-length a = picked (λ (n : ℕ). n ≤ 317) (a .pte) 317 237 (λ e. omega arith) (λ e. omega arith)
-
 module _ (a : Answering) (s : Sized a) (room : List ℕ) (h : 317 ≤ length room) where
-  fits : leb (replyLength a) (length room) ≡ true
-  fits = le-leb (replyLength a) (length room) (omega (arith, most-length a))
-
   long : length (replyOf a) ≡ replyLength a
   long = reply-length a (s .bank) (s .software) (s .message) (s .closing)
 
   written-is : writtenLength a room ≡ replyLength a
-  unfolding writtenLength
-  written-is = picks {A = ℕ} _ _ _ fits
-
-  replied-is : replied a room ≡ replyOf a ++ drop (length (replyOf a)) room
-  unfolding replied overlay
-  replied-is =
-      picks {A = List ℕ} _ _ _ fits
-      ∙ ap (λ (x : List ℕ). x ++ drop (length (replyOf a)) room) (take-all (length room) (replyOf a) (omega (arith, long, most-length a)))
+  written-is = written-whole a long room h
 
   stands : take (replyLength a) (replied a room) ≡ replyOf a
-  stands = ap (take (replyLength a)) replied-is ∙ take-at (replyOf a) (drop (length (replyOf a)) room) (replyLength a) long
+  stands = stands-whole a long room h
 
 -- ---- what a call shows
 

@@ -7,7 +7,6 @@ use mathlib.Core.Bool.{Bool, true, false, false≢true}
 use lib.ListN.{length}
 use Rattle.ground.specs.Choice.{pick}
 use Rattle.text.proofs.Lists.{picked}
-use Rattle.reply.specs.Reply.{replyOf}
 use Rattle.reply.specs.declared.Answering.{Answering}
 use Rattle.whole.specs.WholeFile.{Given, givenAt}
 use Rattle.session.specs.Events.{Turn, fileEnded, isDue}

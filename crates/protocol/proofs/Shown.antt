@@ -2,20 +2,17 @@
 -- Assumes nothing.
 use Prim.Native.Nat.{ℕ, _≤_}
 use mathlib.Core.Path.{_≡_, refl, ap, _∙_}
-use mathlib.Core.List.{List, [], _∷_, _++_}
+use mathlib.Core.List.{List, [], _∷_}
 use mathlib.Core.Bool.{Bool, true, false}
 use native.Mathlib.Omega.{arith}
-use borrow.Author.Tests.{ne-eqb, le-leb}
+use borrow.Author.Tests.{ne-eqb}
 use lib.Dec.{eqb}
-use lib.ListN.{length, take, drop}
-use lib.Seq.{take-at, take-all}
+use lib.ListN.{length, take}
 use Rattle.ground.specs.Choice.{pick}
-use Rattle.ground.specs.Lists.{overlay}
 use Rattle.ground.proofs.Choices.{picks, skips}
-use Rattle.text.proofs.Lists.{picked}
 use Rattle.reply.specs.Reply.{replyOf, replyLength, replied, writtenLength}
 use Rattle.reply.specs.declared.Answering.{Answering}
-use Rattle.reply.proofs.Laws.{least-length, reply-length}
+use Rattle.reply.proofs.Laws.{least-length, reply-length, written-whole, stands-whole}
 use Rattle.whole.specs.WholeFile.{givenAt}
 use Rattle.session.specs.Events.{Turn}
 use Rattle.session.specs.Told.{saidBy}
@@ -32,21 +29,11 @@ module _ (a : Answering) (n : Long a) (room : List ℕ) (h : 317 ≤ length room
   long : length (replyOf a) ≡ replyLength a
   long = reply-length a (n .bank-long) (n .software-long) (n .message-long) (n .closing-long)
 
-  room-holds : replyLength a ≤ length room
-  unfolding replyLength
-  room-holds = picked (λ (k : ℕ). k ≤ length room) (a .pte) 317 237 (λ e. h) (λ e. omega arith)
-
   length-is : writtenLength a room ≡ replyLength a
-  unfolding writtenLength
-  length-is = picks _ _ _ (le-leb _ _ room-holds)
+  length-is = written-whole a long room h
 
   first-is : take (replyLength a) (replied a room) ≡ replyOf a
-  unfolding replied overlay
-  first-is =
-      ap (take (replyLength a)) (picks _ _ _ (le-leb _ _ room-holds))
-      ∙ ap (λ (l : List ℕ). take (replyLength a) (l ++ drop (length (replyOf a)) room))
-      (take-all (length room) (replyOf a) (omega (arith, long, room-holds)))
-      ∙ take-at (replyOf a) _ (replyLength a) long
+  first-is = stands-whole a long room h
 
 -- the replies of a call, in the room and in the answer
 abbrev shownAt : Reply → List ℕ → List (List ℕ)

@@ -2,11 +2,10 @@
 -- Assumes nothing.
 use Prim.Native.Nat.{ℕ, _<_, _≤_}
 use mathlib.Core.Path.{_≡_, refl, sym, ap, ap₂, _∙_}
-use mathlib.Core.Bool.{Bool, true, false}
+use mathlib.Core.Bool.{true, false}
 use mathlib.Core.List.{List, [], _∷_}
 use borrow.Author.Tests.{eq-eqb, ne-eqb}
-use lib.Dec.{eqb}
-use Rattle.ground.specs.Choice.{either, fails, pick, between}
+use Rattle.ground.specs.Choice.{either, fails, between}
 use Rattle.ground.proofs.Choices.{picks, skips, either-left, either-right, between-in, between-below, between-above}
 use Rattle.calendar.specs.Dates.{realTime}
 use Rattle.table.specs.Decode.{isTable, tableOf}

@@ -4,15 +4,13 @@ use Prim.Native.Nat.{ℕ, _<_, _≤_}
 use mathlib.Core.Path.{_≡_, refl, sym, ap, _∙_}
 use mathlib.Core.Bool.{Bool, true, false}
 use mathlib.Core.List.{List, [], _∷_, _++_}
-use native.Mathlib.Omega.{arith}
-use borrow.Author.Tests.{lt-ltb, le-ltb, eq-eqb, ne-eqb}
-use lib.Dec.{eqb, ltb}
+use borrow.Author.Tests.{lt-ltb, le-ltb}
+use lib.Dec.{ltb}
 use lib.ListN.{length}
 use Rattle.ground.specs.Choice.{pick, fails}
-use Rattle.ground.proofs.Choices.{picks, skips}
 use Rattle.table.specs.Decode.{isTable}
 use Rattle.conditions.specs.Refusals.{Refusal, refusal, lowest, noTable}
-use Rattle.conditions.proofs.Refused.{lowest-first, lowest-next, none-left, served, fails-false}
+use Rattle.conditions.proofs.Refused.{lowest-first, lowest-next, none-left, served}
 use Rattle.reader.specs.Lent.{lentRefusals}
 
 -- a refusal among the first stands before those that follow

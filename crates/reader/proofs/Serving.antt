@@ -20,7 +20,7 @@ use Rattle.session.specs.declared.Stepped.{Stepped}
 use Rattle.calls.specs.Reading.{Done, refusedBy, servedBy, roomAfter, lengthOf, readingRefusals, endingRefusals, readServed, readDone, awaits, finishes, endServed, endDone}
 use Rattle.calls.specs.declared.Answer.{Answer}
 use Rattle.reader.specs.Lent.{lentRefusals}
-use Rattle.reader.proofs.Refusing.{threeOf, lent-refuses, session-refuses, none-refuses}
+use Rattle.reader.proofs.Refusing.{lent-refuses, session-refuses, none-refuses}
 
 -- what the code answers and leaves is what the definition says
 abbrev pub Does : Done → Answer → List ℕ → List ℕ → Type 0

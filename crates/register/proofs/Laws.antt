@@ -1,15 +1,15 @@
 -- What the calls promise: which refusal is given, what a refused call leaves, and what a served one keeps.
 -- Assumes nothing.
 use mathlib.Core.Path.{_≡_, refl, sym, ap, _∙_}
-use mathlib.Core.List.{List, [], _∷_, _++_}
+use mathlib.Core.List.{List, [], _∷_}
 use mathlib.Core.Bool.{Bool, true, false}
-use Prim.Native.Nat.{ℕ, zero, suc, _+_, _^_, _≤_, _<_}
+use Prim.Native.Nat.{ℕ, zero, suc, _^_, _<_}
 use native.Mathlib.Nat.{not-suc-le-zero, le-of-suc-le-suc}
 use native.Mathlib.Omega.{arith}
 use borrow.Author.Tests.{ltb-true}
 use lib.Dec.{ltb}
 use lib.ListN.{length, getD, List·getD-append}
-use Rattle.ground.specs.Choice.{both, pick}
+use Rattle.ground.specs.Choice.{both}
 use Rattle.ground.proofs.Choices.{left, right}
 use Rattle.calendar.specs.Dates.{earlier}
 use Rattle.keys.specs.Maker.{nextSeed}

@@ -2,22 +2,21 @@
 -- Assumes nothing.
 use mathlib.Core.Path.{_≡_, refl, sym, ap, _∙_}
 use mathlib.Core.List.{List, [], _∷_, _++_}
-use mathlib.Core.Bool.{Bool, true, false}
+use mathlib.Core.Bool.{true}
 use Prim.Native.Nat.{ℕ, zero, suc, _^_, _<_}
 use native.Mathlib.Nat.{not-suc-le-zero, le-of-suc-le-suc}
 use borrow.Author.Tests.{eq-eqb, ne-eqb}
-use lib.Dec.{eqb}
 use lib.ListN.{length, drop, getD}
 use lib.Seq.{drop-at}
-use Rattle.ground.specs.Choice.{both, pick}
+use Rattle.ground.specs.Choice.{both}
 use Rattle.ground.proofs.Choices.{left, right, picks, skips}
 use Rattle.calendar.specs.Dates.{realDate}
 use Rattle.customer.specs.Customer.{soundCustomer}
 use Rattle.customer.specs.declared.Customer.{Customer}
-use Rattle.table.specs.Table.{Table, customerFits, eachSound, soundTable, placeOf, nobody, customerIn, withCustomer, withDay, withSeed}
+use Rattle.table.specs.Table.{Table, customerFits, eachSound, soundTable, placeOf, nobody, customerIn, withDay, withSeed}
 use Rattle.table.specs.declared.Found.{Found}
-use Rattle.table.specs.declared.Found.the-variants.{At, Unknown}
-use Rattle.table.specs.Named.{customerAt, replacedAt, named, withNamed}
+use Rattle.table.specs.declared.Found.the-variants.{At}
+use Rattle.table.specs.Named.{named, withNamed}
 use Rattle.table.specs.Written.{encode, written}
 use Rattle.table.specs.Decode.{tableOf, isTable}
 use Rattle.table.specs.Stored.{dayStored, seedStored, customerStored}

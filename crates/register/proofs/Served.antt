@@ -1,28 +1,26 @@
 -- A call that is served: no refusal holds, so that the table after it is sound, and the parts that it writes make up that table.
 -- Assumes nothing.
 use mathlib.Core.Path.{_≡_, refl, sym, ap, ap₂, subst, _∙_}
-use mathlib.Core.List.{List, [], _∷_}
-use mathlib.Core.Bool.{Bool, true, false}
-use Prim.Native.Nat.{ℕ, _+_, _^_, _≤_, _<_}
+use mathlib.Core.List.{List}
+use mathlib.Core.Bool.{true, false}
+use Prim.Native.Nat.{ℕ, _^_, _≤_, _<_}
 use native.Mathlib.Omega.{arith}
-use borrow.Author.Tests.{eqb-true, eq-eqb, ltb-true, ltb-false, leb-false, le-leb, lt-ltb, eqb-false}
-use lib.Dec.{eqb, ltb, leb}
+use borrow.Author.Tests.{eqb-true, eq-eqb, ltb-false, leb-false, lt-ltb}
+use lib.Dec.{eqb}
 use lib.ListN.{length}
 use Rattle.ground.specs.Choice.{both, either, fails, one, between}
 use Rattle.ground.specs.Lists.{all}
-use Rattle.ground.proofs.Choices.{left, right, join, between-in}
+use Rattle.ground.proofs.Choices.{join, between-in}
 use Rattle.calendar.specs.Dates.{leap, daysIn, realDate, earlier}
 use Rattle.keys.specs.Keys.{combined, nextGeneration}
 use Rattle.keys.specs.Maker.{keyOf, nextSeed}
 use Rattle.keys.proofs.Laws.{combined-odd, combined-lt, made-odd, made-lt, seed-lt}
 use Rattle.customer.specs.Settings.{soundWho, soundName, soundSettings}
-use Rattle.customer.specs.Customer.{soundCustomer}
 use Rattle.customer.specs.declared.Customer.{Customer}
 use Rattle.customer.specs.declared.Settings.{Settings}
-use Rattle.changeover.specs.Held.{changing}
 use Rattle.changeover.specs.Changes.{withTransport, withWorking}
 use Rattle.changeover.proofs.Laws.{with-transport-sound, with-working-sound}
-use Rattle.table.specs.Table.{Table, settingsFit, customerFits, rising, distinct, eachSound, soundTable, placeOf, isUnknown, customerIn, withAdded, withDay, withSeed}
+use Rattle.table.specs.Table.{Table, settingsFit, customerFits, rising, distinct, eachSound, soundTable, placeOf, customerIn, withAdded, withSeed}
 use Rattle.table.specs.declared.Found.{Found}
 use Rattle.table.specs.declared.Found.the-variants.{At, Unknown}
 use Rattle.table.specs.Named.{named, withNamed}
@@ -34,8 +32,8 @@ use Rattle.table.proofs.Encode
 use Rattle.table.proofs.Decode
 use Rattle.table.proofs.Stores
 use Rattle.table.proofs.Places.{is-unknown, known-at, named-at}
-use Rattle.conditions.specs.Refusals.{Refusal, refusal, lowest, noTable, badDay, tableFull, alreadyThere, noSuchCustomer, evenPart, checkDiffers, notNext, badLength}
-use Rattle.register.specs.Calls.{leaves, newCustomer, newTable, addedTo, enteredIn, orderedIn, settingUpRefusals, settingUpAnswer, settingUpLeaves, addingRefusals, addingAnswer, addingLeaves, enteringRefusals, enteringAnswer, enteringLeaves, orderingRefusals, orderingAnswer, orderingLeaves}
+use Rattle.conditions.specs.Refusals.{Refusal, tableFull, alreadyThere, noSuchCustomer, notNext, badLength}
+use Rattle.register.specs.Calls.{newCustomer, newTable, addedTo, enteredIn, orderedIn, settingUpRefusals, settingUpAnswer, settingUpLeaves, addingRefusals, addingAnswer, addingLeaves, enteringRefusals, enteringAnswer, enteringLeaves, orderingRefusals, orderingAnswer, orderingLeaves}
 use Rattle.conditions.specs.Length.{lengthOf}
 use Rattle.conditions.specs.declared.Length.{Length}
 use Rattle.conditions.specs.declared.Length.the-variants.{Given, LeftOut}

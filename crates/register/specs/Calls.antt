@@ -1,11 +1,10 @@
 -- The four calls that keep a table: what refuses each, what each makes of a table, and what that leaves of the lent bytes.
 -- Assumes nothing.
 use Prim.Native.Nat.{ℕ, _^_}
-use mathlib.Core.Bool.{Bool, true, false}
 use mathlib.Core.List.{List, [], _∷_}
 use lib.Dec.{eqb, ltb, leb}
 use lib.ListN.{length, replicate}
-use Rattle.ground.specs.Choice.{both, either, fails, pick}
+use Rattle.ground.specs.Choice.{either, fails, pick}
 use Rattle.ground.specs.Lists.{all}
 use Rattle.calendar.specs.Dates.{realDate}
 use Rattle.keys.specs.Keys.{combined, workingKey0}

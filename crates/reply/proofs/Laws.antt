@@ -5,7 +5,7 @@ use mathlib.Core.Bool.{Bool, true, false}
 use mathlib.Core.List.{List, [], _++_, append-assoc}
 use Prim.Native.Nat.{ℕ, _+_, _≤_}
 use native.Mathlib.Omega.{arith}
-use borrow.Author.Tests.{leb-true}
+use borrow.Author.Tests.{leb-true, le-leb}
 use lib.Dec.{leb}
 use lib.ListN.{length, take, drop, replicate, length-append}
 use lib.Seq.{take-at, drop-at, take-all}
@@ -22,7 +22,7 @@ use Rattle.changeover.specs.declared.Key.the-variants.{Missing, Is}
 use Rattle.message.specs.Layout.{fieldText, offsetIn, widthIn}
 use Rattle.message.specs.Fields.{receiverOf, senderOf, stampTextOf}
 use Rattle.notice.specs.Codes.{codeIn, codes}
-use Rattle.reply.specs.Reply.{hexOr, sealedFlag, opening, fullBody, bareBody, head, summed, checksumKey, enclosedKey, noticeOf, replyOf, replyLength, replied}
+use Rattle.reply.specs.Reply.{hexOr, sealedFlag, opening, fullBody, bareBody, head, summed, checksumKey, enclosedKey, noticeOf, replyOf, replyLength, replied, writtenLength}
 use Rattle.reply.specs.declared.Answering.{Answering}
 use Rattle.reply.proofs.Keys.{hex-or-length, flag-length}
 use Rattle.reply.proofs.Widths.{pick-length, part-length, tag-length, opening-length, bare-length, full-length, notice-length}
@@ -192,3 +192,22 @@ rest-stays a bank software message closing room =
         ap (λ (x : List ℕ). drop (replyLength a) (x ++ drop (length (replyOf a)) room)) (take-all (length room) (replyOf a) (omega (arith, n)))
         ∙ drop-at (replyOf a) (drop (length (replyOf a)) room) (replyLength a) n
         ∙ ap (λ (k : ℕ). drop k room) n
+
+-- ---- in room for the longest it stands whole
+
+module _ (a : Answering) (long : length (replyOf a) ≡ replyLength a) (room : List ℕ) (h : 317 ≤ length room) where
+  holds : replyLength a ≤ length room
+  unfolding replyLength
+  holds = picked (λ (k : ℕ). k ≤ length room) (a .pte) 317 237 (λ e. h) (λ e. omega arith)
+
+  pub written-whole : writtenLength a room ≡ replyLength a
+  unfolding writtenLength
+  written-whole = picks _ _ _ (le-leb _ _ holds)
+
+  pub stands-whole : take (replyLength a) (replied a room) ≡ replyOf a
+  unfolding replied overlay
+  stands-whole =
+      ap (take (replyLength a)) (picks _ _ _ (le-leb _ _ holds))
+      ∙ ap (λ (l : List ℕ). take (replyLength a) (l ++ drop (length (replyOf a)) room))
+      (take-all (length room) (replyOf a) (omega (arith, long, holds)))
+      ∙ take-at (replyOf a) _ (replyLength a) long

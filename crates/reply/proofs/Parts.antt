@@ -6,8 +6,8 @@ use Prim.Native.Nat.{ℕ, _+_, _-_, _≤_}
 use native.Mathlib.Nat.{zero-add}
 use native.Mathlib.Omega.{arith}
 use borrow.Rule.Slice.PartMut.{putMid}
-use lib.ListN.{length, take, drop, length-append, length-take, length-drop, drop-of-length-le, replicate, length-replicate}
-use lib.Seq.{length-take-le, take-at, drop-drop, drop-append-add, take-all, paste-zero}
+use lib.ListN.{length, take, drop, length-append, length-drop, drop-of-length-le, replicate, length-replicate}
+use lib.Seq.{length-take-le, take-at, drop-drop, take-all, paste-zero}
 use Rattle.ground.specs.Lists.{overlay}
 use Rattle.text.specs.Characters.{blank}
 use Rattle.splices.specs.Bytes.{splice}

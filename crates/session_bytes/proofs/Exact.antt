@@ -8,7 +8,7 @@ use native.Mathlib.Omega.{arith}
 use borrow.Author.Tests.{eqb-true, eq-eqb, ne-eqb}
 use lib.Dec.{eqb}
 use lib.ListN.{length, getD, replicate}
-use Rattle.ground.specs.Choice.{one, pick}
+use Rattle.ground.specs.Choice.{pick}
 use Rattle.ground.specs.Lists.{part, same}
 use Rattle.ground.proofs.Choices.{fails-left, decides, eq-same}
 use Rattle.splices.specs.Bytes.{num, numAt, bytesOf, joined}

@@ -1,18 +1,18 @@
 -- A record that fits and is sound is read back as it was written: each of its numbers is below what its bytes hold.
 -- Assumes nothing.
-use mathlib.Core.Path.{_≡_, refl, sym, _∙_}
+use mathlib.Core.Path.{_≡_, sym, _∙_}
 use mathlib.Core.List.{List, [], _∷_}
-use mathlib.Core.Bool.{Bool, true, false}
+use mathlib.Core.Bool.{Bool, true}
 use mathlib.Core.Logic.{⊎-elim}
 use Prim.Native.Nat.{ℕ, zero, suc, _^_, _<_}
 use native.Mathlib.Omega.{arith}
 use borrow.Author.Tests.{eqb-true, leb-true, ltb-true}
-use lib.Dec.{eqb, ltb}
+use lib.Dec.{eqb}
 use lib.ListN.{length, getD}
-use Rattle.ground.specs.Choice.{both, either, between}
-use Rattle.ground.specs.Lists.{all, member}
+use Rattle.ground.specs.Lists.{all}
 use Rattle.ground.proofs.Choices.{left, right, either-cases, between-true}
-use Rattle.text.specs.Characters.{fieldCharacter, marks}
+use Rattle.text.specs.Characters.{fieldCharacter}
+use Rattle.text.proofs.Laws.{field-lt}
 use Rattle.calendar.specs.Dates.{realDate}
 use Rattle.customer.specs.Customer.{soundPrevious, soundKeys, realStamp, soundStamps, soundCustomer}
 use Rattle.customer.specs.Settings.{soundName, soundWho, soundSettings}
@@ -30,36 +30,6 @@ unfolding all
 each-below f n h z [] e k = z
 each-below f n h z (x ∷ l) e zero = h x (left _ _ e)
 each-below f n h z (x ∷ l) e (suc k) = each-below f n h z l (right _ _ e) k
-
--- every mark is a byte
-marks-below : (x : ℕ) (l : List ℕ) → all (λ y. ltb y 256) l ≡ true → member x l ≡ true → x < 256
-unfolding all member
-marks-below x [] a e = let z : _≡_ {A = Bool} false true = e in absurd (let y : _≡_ {A = ℕ} 0 1 = cc in omega arith)
-marks-below x (y ∷ l) a e =
-    ⊎-elim
-    (λ (p : eqb y x ≡ true). let q = eqb-true y x p in let r = ltb-true y 256 (left _ _ a) in omega arith)
-    (λ (p : member x l ≡ true). marks-below x l (right _ _ a) p)
-    (either-cases (eqb y x) (member x l) e)
-
-marks-small : all (λ y. ltb y 256) marks ≡ true
-unfolding all both
-marks-small = refl
-
-field-lt : (x : ℕ) → fieldCharacter x ≡ true → x < 256
-unfolding fieldCharacter
-field-lt x e =
-    ⊎-elim
-    (λ (p : between 0x41 0x5A x ≡ true). let q = between-true 0x41 0x5A x p in omega arith)
-    (λ (p : either (between 0x30 0x39 x) _ ≡ true).
-    ⊎-elim
-    (λ (q : between 0x30 0x39 x ≡ true). let r = between-true 0x30 0x39 x q in omega arith)
-    (λ (q : either (eqb x 0x20) _ ≡ true).
-    ⊎-elim
-    (λ (r : eqb x 0x20 ≡ true). let s = eqb-true x 0x20 r in omega arith)
-    (λ r. marks-below x _ marks-small r)
-    (either-cases _ _ q))
-    (either-cases _ _ p))
-    (either-cases _ _ e)
 
 who-bytes : (l : List ℕ) → soundWho l ≡ true → (k : ℕ) → getD l k 0 < 256
 unfolding soundWho

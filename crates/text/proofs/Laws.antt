@@ -6,16 +6,35 @@ use mathlib.Core.List.{List, [], _∷_, _++_}
 use Prim.Native.Nat.{ℕ, suc, _+_, _-_, _*_, _/_, _%_, _^_, _≤_, _<_}
 use mathlib.Core.Logic.{⊎-elim}
 use native.Mathlib.Omega.{arith}
-use borrow.Author.Tests.{eqb-true}
-use lib.Dec.{eqb}
+use borrow.Author.Tests.{eqb-true, ltb-true}
+use lib.Dec.{eqb, ltb}
 use lib.ListN.{length, length-append, length-take, length-drop, length-replicate}
 use Rattle.ground.specs.Choice.{both, either, fails, pick, between}
 use Rattle.ground.specs.Lists.{all, member, overlay}
-use Rattle.ground.proofs.Choices.{join, either-left, either-decides, either-cases, picks, skips, between-true, between-in}
-use Rattle.text.specs.Characters.{digit, small, fieldCharacter, internal, hexDigit, padded}
+use Rattle.ground.proofs.Choices.{left, right, join, either-left, either-decides, either-cases, picks, skips, between-true, between-in}
+use Rattle.text.specs.Characters.{blank, digit, small, marks, fieldCharacter, internal, hexDigit, padded}
 use Rattle.text.specs.Numbers.{digitValue, hexValue, decimal, decimalFrom, hex, hexFrom, hexCharacter, hexDigits, decimalDigits}
 use Rattle.text.proofs.Base as base
 use Rattle.text.proofs.Lists as lists
+
+-- ---- the field characters
+
+member-lt : (n x : ℕ) (l : List ℕ) → all (λ y. ltb y n) l ≡ true → member x l ≡ true → x < n
+unfolding all member
+member-lt n x [] a m = let z : _≡_ {A = ℕ} 0 1 = cc in omega arith
+member-lt n x (y ∷ l) a m =
+    ⊎-elim (λ e. rw (eqb-true y x e) at (ltb-true y n (left _ _ a))) (λ e. member-lt n x l (right _ _ a) e)
+    (either-cases (eqb y x) (member x l) m)
+
+-- each is a byte
+pub field-lt : (x : ℕ) → fieldCharacter x ≡ true → x < 256
+unfolding fieldCharacter all both
+field-lt x f =
+    ⊎-elim (λ e. omega (arith, between-true 0x41 0x5A x e))
+    (λ f. ⊎-elim (λ e. omega (arith, between-true 0x30 0x39 x e))
+    (λ f. ⊎-elim (λ e. omega (arith, eqb-true x blank e)) (λ e. member-lt 256 x marks refl e) (either-cases _ _ f))
+    (either-cases _ _ f))
+    (either-cases _ _ f)
 
 -- ---- the internal code
 

@@ -2,12 +2,11 @@
 -- Assumes nothing.
 use mathlib.Core.Path.{_≡_, refl, sym, ap, ap₂, _∙_, subst}
 use mathlib.Core.Bool.{true, false}
-use mathlib.Core.List.{List, [], _∷_, _++_}
+use mathlib.Core.List.{List, _++_}
 use Prim.Native.Nat.{ℕ, _+_, _≤_, _<_}
 use native.Mathlib.Omega.{arith}
 use borrow.Author.Tests.{leb-false, lt-ltb}
 use lib.ListN.{length, take, length-set}
-use Rattle.ground.specs.Choice.{pick}
 use Rattle.ground.specs.Lists.{member}
 use Rattle.ground.proofs.Choices.{join}
 use Rattle.customer.specs.Customer.{realStamp}
@@ -15,7 +14,7 @@ use Rattle.customer.specs.declared.Customer.{Customer}
 use Rattle.acceptance.specs.Stamps.{holdsStamp, stampOld, heldStamps, liveOf, liveStamps, withStamp}
 use Rattle.acceptance.proofs.Grants.{grant-who, grant-stamps}
 use Rattle.acceptance.proofs.Purge.{stamp-new, stamp-kept}
-use Rattle.table.specs.Table.{Table, placeOf, isUnknown, customerIn, withCustomer, withSeed}
+use Rattle.table.specs.Table.{Table, placeOf, customerIn, withCustomer, withSeed}
 use Rattle.table.specs.Named.{customerAt, replacedAt, named, withNamed}
 use Rattle.table.specs.Decode.{tableOf}
 use Rattle.table.specs.declared.Found.{Found}

@@ -2,7 +2,6 @@
 -- Assumes nothing.
 use mathlib.Core.Path.{_≡_, refl}
 use mathlib.Core.Bool.{true}
-use lib.ListN.{replicate}
 use Rattle.ground.specs.Lists.{all, member, same, part, overlay}
 use Rattle.ground.specs.Choice.{both, either, fails, pick, one, between}
 use Rattle.text.specs.Letters.{letters}

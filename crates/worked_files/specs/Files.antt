@@ -2,10 +2,9 @@
 -- Assumes nothing.
 use Prim.Native.Nat.{ℕ}
 use Prim.Native.String.{String}
-use mathlib.Core.Bool.{Bool, true, false}
+use mathlib.Core.Bool.{Bool, true}
 use mathlib.Core.List.{List, [], _∷_, _++_}
 use lib.ListN.{length, take, drop, replicate}
-use Rattle.ground.specs.Choice.{both}
 use Rattle.ground.specs.Lists.{same}
 use Rattle.text.specs.Characters.{blank}
 use Rattle.text.specs.Numbers.{decimal}

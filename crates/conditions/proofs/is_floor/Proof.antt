@@ -2,7 +2,6 @@
 use mathlib.Core.Path.{refl}
 use borrow.Author.Tests.{eq-eqb, ne-eqb}
 use Rattle.conditions.proofs.Refused.{holds, rests}
-use borrow.Author.Needs.{needs}
 use Rattle.conditions.proofs.is_floor.Statement.{statement}
 use Rattle.conditions.proofs.is_floor.Tie as tie
 

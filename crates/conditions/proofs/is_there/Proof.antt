@@ -1,6 +1,6 @@
 -- By the two cases of what is found.
 use mathlib.Core.Path.{_≡_, ap, _∙_}
-use mathlib.Core.Bool.{Bool, true, false}
+use mathlib.Core.Bool.{true, false}
 use Rattle.ground.specs.Choice.{fails}
 use Rattle.table.specs.Table.{isUnknown}
 use Rattle.table.specs.declared.Found.{Found}
