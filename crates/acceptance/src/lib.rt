@@ -150,6 +150,7 @@ pub fn with_stamp(
         beside[n] = once;
     }
     let who = c.who;
+    let length = c.length;
     let transport = c.transport;
     let working = c.working;
     customer::Customer {
@@ -157,7 +158,7 @@ pub fn with_stamp(
         types: c.types,
         agreed: c.agreed,
         leave: c.leave,
-        length: c.length,
+        length: length,
         transport: transport,
         working: working,
         count: count + 1,

@@ -1,9 +1,11 @@
 -- An answer made of what the calls give is the definition's.
 use Prim.Native.Nat.{ℕ}
 use mathlib.Core.Path.{_≡_, refl}
-use mathlib.Core.Bool.{Bool, true}
+use mathlib.Core.Bool.{Bool, true, false}
 use mathlib.Core.List.{List}
 use lib.ListN.{replicate}
+use Rattle.ground.proofs.Choices.{skips}
+use Rattle.text.proofs.Lists.{picked}
 use Rattle.customer.specs.declared.Customer.{Customer}
 use Rattle.customer.specs.declared.Settings.{Settings}
 use Rattle.changeover.specs.Held.{heldKey}
@@ -15,7 +17,7 @@ use Rattle.message.specs.Fields.{senderOf, transportGenerationOf, workingGenera
 use Rattle.verdict.specs.declared.Outcome.{Outcome}
 use Rattle.notice.specs.Codes.{codeIn, codes}
 use Rattle.reply.specs.declared.Answering.{Answering}
-use Rattle.answers.specs.Answers.{bareAnswer, verdictAnswer}
+use Rattle.answers.specs.Answers.{bareAnswer, fullAnswer, verdictAnswer}
 use Rattle.answers.specs.declared.Opening.{Opening}
 
 module _ (t : Table) (o : Opening) (pte : Bool) {s : Settings} where
@@ -37,12 +39,11 @@ module _ (t : Table) (o : Opening) (pte : Bool) {s : Settings} where
   unfolding bareAnswer
   bare-made code field e = rw e
 
-  pub verdict-made : (out : Outcome) (m closing : List ℕ) {c : Customer} {wg tg : ℕ} {w k : Key} {b : Bool} → s ≡ t .settings → c ≡ named t (senderOf m)
+  pub full-made : (out : Outcome) (m closing : List ℕ) {c : Customer} {wg tg : ℕ} {w k : Key} → s ≡ t .settings → c ≡ named t (senderOf m)
       → wg ≡ workingGenerationOf m → w ≡ heldKey (c .working) wg → tg ≡ transportGenerationOf m → k ≡ heldKey (c .transport) tg
-      → b ≡ codeIn (out .code) codes .bare
       → record {
         pte = pte;
-        bare = b;
+        bare = false;
         code = out .code;
         field = out .field;
         time = o .time;
@@ -53,6 +54,21 @@ module _ (t : Table) (o : Opening) (pte : Bool) {s : Settings} where
         working = w;
         transport = k;
         enclosed = out .enclosed;
-      } ≡ verdictAnswer t o pte out m closing
+      } ≡ fullAnswer t o pte out m closing
+  unfolding fullAnswer
+  full-made out m closing es ec eg ew eh ek = rw (es, ew, ek, eg, eh, ec)
+
+-- ---- a verdict's reply, bare or full
+
+module _ (t : Table) (o : Opening) (pte : Bool) (out : Outcome) (m closing : List ℕ) where
+  pub verdict-code : verdictAnswer t o pte out m closing .code ≡ out .code
+  unfolding verdictAnswer bareAnswer fullAnswer
+  verdict-code = picked (λ (a : Answering). a .code ≡ out .code) _ _ _ (λ e. refl) (λ e. refl)
+
+  pub verdict-field : verdictAnswer t o pte out m closing .field ≡ out .field
+  unfolding verdictAnswer bareAnswer fullAnswer
+  verdict-field = picked (λ (a : Answering). a .field ≡ out .field) _ _ _ (λ e. refl) (λ e. refl)
+
+  pub verdict-full : codeIn (out .code) codes .bare ≡ false → verdictAnswer t o pte out m closing ≡ fullAnswer t o pte out m closing
   unfolding verdictAnswer
-  verdict-made out m closing es ec eg ew eh ek eb = rw (es, eb, ew, ek, eg, eh, ec)
+  verdict-full e = skips _ _ _ e

@@ -1,9 +1,10 @@
 -- Which reply answers what (document 01, 'Replies'): the form, the keys and the texts that go into it.
 -- Assumes nothing.
 use Prim.Native.Nat.{ℕ}
-use mathlib.Core.Bool.{Bool, true}
+use mathlib.Core.Bool.{Bool, true, false}
 use mathlib.Core.List.{List}
 use lib.ListN.{replicate}
+use Rattle.ground.specs.Choice.{pick}
 use Rattle.customer.specs.declared.Customer.{Customer}
 use Rattle.changeover.specs.Held.{heldKey}
 use Rattle.changeover.specs.declared.Key.the-variants.{Missing}
@@ -33,14 +34,14 @@ bareAnswer t o pte code field =
       enclosed = Missing;
     }
 
--- a verdict's reply, on the table as the verdict leaves it: `m` is the message (a frame's SUO), `closing` the one that ended it (the VAR). The
+-- the full form, on the table as the verdict leaves it: `m` is the message (a frame's SUO), `closing` the one that ended it (the VAR). The
 -- checksum uses the message's working generation if held, whatever the date; a key enclosed is enciphered under its transport generation
-unfoldable pub verdictAnswer : Table → Opening → Bool → Outcome → List ℕ → List ℕ → Answering
-verdictAnswer t o pte out m closing =
+unfoldable pub fullAnswer : Table → Opening → Bool → Outcome → List ℕ → List ℕ → Answering
+fullAnswer t o pte out m closing =
     let c : Customer = named t (senderOf m) in
     record {
       pte = pte;
-      bare = codeIn (out .code) codes .bare;
+      bare = false;
       code = out .code;
       field = out .field;
       time = o .time;
@@ -52,3 +53,8 @@ verdictAnswer t o pte out m closing =
       transport = heldKey (c .transport) (transportGenerationOf m);
       enclosed = out .enclosed;
     }
+
+-- a verdict's reply: bare or full by its code
+unfoldable pub verdictAnswer : Table → Opening → Bool → Outcome → List ℕ → List ℕ → Answering
+verdictAnswer t o pte out m closing =
+    pick (codeIn (out .code) codes .bare) (bareAnswer t o pte (out .code) (out .field)) (fullAnswer t o pte out m closing)

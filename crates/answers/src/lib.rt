@@ -1,7 +1,7 @@
 // Which reply answers what: the form, and the keys of the message's generations.
 ghost use mathlib.Core.Path.{_≡_};
 ghost use Rattle.table.specs.Decode.{tableOf};
-ghost use Rattle.answers.specs.Answers.{bareAnswer, verdictAnswer};
+ghost use Rattle.answers.specs.Answers.{bareAnswer, fullAnswer, verdictAnswer};
 
 // What is given at opening: today, the time hhmmss, the data type and the clock value.
 pub struct Opening {
@@ -34,8 +34,8 @@ pub fn bare_answer(t: &[u8], o: Opening, pte: bool, code: u32, field: u32) -> re
     }
 }
 
-// The reply to a verdict, on the table as the verdict leaves it.
-pub fn verdict_answer(
+// A full reply, on the table as the verdict leaves it.
+fn full_answer(
     t: &[u8],
     o: Opening,
     pte: bool,
@@ -43,7 +43,7 @@ pub fn verdict_answer(
     m: [u8; 161],
     closing: [u8; 161],
 ) -> reply::Answering
-    ensures { λ r. ⌜ r ≡ verdictAnswer (tableOf (now (t .entry))) o pte out m closing ⌝ }
+    ensures { λ r. ⌜ r ≡ fullAnswer (tableOf (now (t .entry))) o pte out m closing ⌝ }
 {
     let settings = table::settings(t);
     let bank = settings.bank;
@@ -51,12 +51,13 @@ pub fn verdict_answer(
     let c = checks::customer_of(t, m);
     let working_keys = c.working;
     let transport_keys = c.transport;
-    let working = changeover::held(working_keys, message::working_generation(m));
+    let generation = message::working_generation(m);
+    let working = changeover::held(working_keys, generation);
     let transport = changeover::held(transport_keys, message::transport_generation(m));
     let enclosed = out.enclosed;
     reply::Answering {
         pte,
-        bare: notice::is_bare(out.code),
+        bare: false,
         code: out.code,
         field: out.field,
         time: o.time,
@@ -68,4 +69,21 @@ pub fn verdict_answer(
         transport,
         enclosed,
     }
+}
+
+// The reply to a verdict: the bare form needs no keys.
+pub fn verdict_answer(
+    t: &[u8],
+    o: Opening,
+    pte: bool,
+    out: verdict::Outcome,
+    m: [u8; 161],
+    closing: [u8; 161],
+) -> reply::Answering
+    ensures { λ r. ⌜ r ≡ verdictAnswer (tableOf (now (t .entry))) o pte out m closing ⌝ }
+{
+    if notice::is_bare(out.code) {
+        return bare_answer(t, o, pte, out.code, out.field);
+    }
+    full_answer(t, o, pte, out, m, closing)
 }

@@ -11,6 +11,7 @@ use lib.Dec.{ltb}
 use Rattle.ground.specs.Choice.{both, either, fails, one, pick, between}
 use Rattle.ground.proofs.Choices.{left, right, join, between-true, between-in}
 use Rattle.calendar.specs.Dates.{yearOf, monthOf, dayOf, placeInOrder, leap, daysIn, daysInYear, realDate, earlier, yearsBefore, monthsBefore, dayNumber, inYear, fromYear, dateOf, later}
+use Rattle.calendar.specs.declared.CalendarDays.{CalendarDays}
 use Rattle.calendar.proofs.Walk.{below, found, lands, past, mono}
 use Rattle.calendar.proofs.Months.{days-in-le, beforeYear, month-step, year-step, twelve, from-zero, from-walk, monthDay, yearDate, years-le, months-le, no-years, no-months, from-one}
 
@@ -224,17 +225,18 @@ not-earlier a b r s h = ltb-false (dayNumber a) (dayNumber b) (sym (earlier-days
 
 -- ---- calendar days later
 
-pub later-mono : (d n m : ℕ) → n ≤ m → earlier (later d m) (later d n) ≡ false
+pub later-mono : (d : ℕ) (n m : CalendarDays) → n .0 ≤ m .0 → earlier (later d m) (later d n) ≡ false
 unfolding later
-later-mono d n m h = dates-rise (dayNumber d + n) (dayNumber d + m) (omega arith)
+later-mono d n m h = dates-rise (dayNumber d + n .0) (dayNumber d + m .0) (omega arith)
 
-pub later-after : (d n : ℕ) → realDate d ≡ true → earlier (later d n) d ≡ false
+pub later-after : (d : ℕ) (n : CalendarDays) → realDate d ≡ true → earlier (later d n) d ≡ false
 unfolding later
-later-after d n r = rw (date-of-day d r) at (dates-rise (dayNumber d) (dayNumber d + n) (omega arith))
+later-after d n r = rw (date-of-day d r) at (dates-rise (dayNumber d) (dayNumber d + n .0) (omega arith))
 
-pub later-keeps : (d e n : ℕ) → realDate d ≡ true → realDate e ≡ true → earlier e d ≡ false → earlier (later e n) (later d n) ≡ false
+pub later-keeps : (d e : ℕ) (n : CalendarDays) → realDate d ≡ true → realDate e ≡ true → earlier e d ≡ false
+    → earlier (later e n) (later d n) ≡ false
 unfolding later
-later-keeps d e n r s h = dates-rise (dayNumber d + n) (dayNumber e + n) (omega (arith, not-earlier e d s r h))
+later-keeps d e n r s h = dates-rise (dayNumber d + n .0) (dayNumber e + n .0) (omega (arith, not-earlier e d s r h))
 
 -- ---- the number of any date, real or not
 

@@ -13,7 +13,6 @@ use Rattle.ground.proofs.Choices.{picks, skips}
 use Rattle.calendar.specs.Dates.{realDate, earlier, dayNumber, dateOf}
 use Rattle.calendar.specs.Banking.{bankingDay, bankingAmong, bankingDaysAfter, tooOld, firstGood, earliestGood}
 use Rattle.calendar.proofs.Walk.{below}
-use Rattle.calendar.proofs.Months.{one-le}
 use Rattle.calendar.proofs.Days.{day-number-lt, day-of-date, date-real, earlier-days, not-earlier}
 
 module _ (hs : List ℕ) where
@@ -36,11 +35,6 @@ module _ (hs : List ℕ) where
   pub up-none : (t k : ℕ) → t ≤ k → upTo t k ≡ 0
   unfolding bankingAmong
   up-none t k h = let s : t - k ≡ zero = omega arith in rw s
-
-  pub among-le : (n k : ℕ) → bankingAmong hs k n ≤ n
-  unfolding bankingAmong
-  among-le zero k = omega arith
-  among-le (suc n) k = omega (arith, one-le (bankingDay hs (k + 1)), among-le n (k + 1))
 
   among-more : (n k j : ℕ) → bankingAmong hs k n ≤ bankingAmong hs k (n + j)
   unfolding bankingAmong

@@ -7,6 +7,7 @@ use lib.Dec.{ltb}
 use Rattle.ground.specs.Choice.{both, fails, pick, one}
 use Rattle.ground.specs.Lists.{member}
 use Rattle.calendar.specs.Dates.{dayNumber, dateOf}
+use Rattle.calendar.specs.declared.BankingDays.{BankingDays}
 
 -- 0 is Monday and 6 Sunday; day 0, 800101, was a Tuesday
 abbrev pub weekday : ℕ → ℕ
@@ -21,19 +22,30 @@ unfoldable pub bankingAmong : List ℕ → ℕ → ℕ → ℕ
 bankingAmong holidays k zero = 0
 bankingAmong holidays k (suc n) = one (bankingDay holidays (k + 1)) + bankingAmong holidays (k + 1) n
 
+-- the banking days that lie after day k and up to day t
+abbrev pub bankingUpTo : List ℕ → ℕ → ℕ → BankingDays
+bankingUpTo holidays t k = record { 0 = bankingAmong holidays k (t - k) }
+
 -- the banking days that lie after the date s and up to the date t
-unfoldable pub bankingDaysAfter : List ℕ → ℕ → ℕ → ℕ
-bankingDaysAfter holidays s t = bankingAmong holidays (dayNumber s) (dayNumber t - dayNumber s)
+unfoldable pub bankingDaysAfter : List ℕ → ℕ → ℕ → BankingDays
+bankingDaysAfter holidays s t = bankingUpTo holidays (dayNumber t) (dayNumber s)
+
+abbrev pub moreThan : BankingDays → BankingDays → Bool
+moreThan n m = ltb (m .0) (n .0)
+
+-- a stamp's age that is still good
+abbrev pub tooOldAfter : BankingDays
+tooOldAfter = record { 0 = 5 }
 
 -- more than five banking days lie after the stamp's date and up to today
 unfoldable pub tooOld : List ℕ → ℕ → ℕ → Bool
-tooOld holidays s today = ltb 5 (bankingDaysAfter holidays s today)
+tooOld holidays s today = moreThan (bankingDaysAfter holidays s today) tooOldAfter
 
 -- the first day from k on, of n further ones, that is not too old on the day t
 unfoldable pub firstGood : List ℕ → ℕ → ℕ → ℕ → ℕ
 firstGood holidays t k zero = k
 firstGood holidays t k (suc n) =
-    pick (ltb 5 (bankingAmong holidays k (t - k))) (firstGood holidays t (k + 1) n) k
+    pick (moreThan (bankingUpTo holidays t k) tooOldAfter) (firstGood holidays t (k + 1) n) k
 
 -- the earliest date that is not too old today: one search answers for every stamp
 unfoldable pub earliestGood : List ℕ → ℕ → ℕ

@@ -6,6 +6,7 @@ use mathlib.Core.List.{List, [], _∷_}
 use lib.Dec.{eqb, ltb}
 use lib.ListN.{getD}
 use Rattle.ground.specs.Choice.{both, either, fails, pick, one, between}
+use Rattle.calendar.specs.declared.CalendarDays.{CalendarDays}
 
 -- yy 80 to 99 are 1980 to 1999, 00 to 79 are 2000 to 2079
 abbrev pub yearOf : ℕ → ℕ
@@ -78,5 +79,5 @@ unfoldable pub dateOf : ℕ → ℕ
 dateOf k = fromYear 1980 k 100
 
 -- the date n calendar days later; a day beyond 791231 is 791231
-unfoldable pub later : ℕ → ℕ → ℕ
-later d n = dateOf (dayNumber d + n)
+unfoldable pub later : ℕ → CalendarDays → ℕ
+later d n = dateOf (dayNumber d + n .0)

@@ -1,19 +1,22 @@
 // The calendar: dates yymmdd of 1980 to 2079, calendar days, banking days, stamps that are too old.
 ghost use mathlib.Core.Path.{_≡_};
-ghost use Prim.Native.Nat.{_<_};
+ghost use Prim.Native.Nat.{_+_, _<_};
 ghost use Rattle.ground.specs.Lists.{member};
 ghost use Rattle.calendar.specs.Dates.{leap, daysIn, daysInYear, realDate, realTime, placeInOrder, earlier, yearsBefore, monthsBefore, dayNumber, inYear, dateOf, later};
-ghost use Rattle.calendar.specs.Banking.{weekday, bankingDay, bankingDaysAfter, tooOld, firstGood, earliestGood};
+ghost use Rattle.calendar.specs.Banking.{weekday, bankingDay, moreThan, tooOld, firstGood, earliestGood};
 
 // A date as it is written, yymmdd.
 pub struct Date {
     pub yymmdd: u32,
 }
 
-// The two counts, which are never added together or compared.
+// The two counts, which are never added together or compared: a date is moved on by the one, and its age is told by the other.
 pub struct CalendarDays(pub u32);
 
 pub struct BankingDays(pub u32);
+
+// A stamp is too old once more banking days than these lie after its date.
+const TOO_OLD_AFTER: BankingDays = BankingDays(5);
 
 // Whether a time hhmmss is real.
 pub fn is_real_time(hhmmss: u32) -> bool
@@ -142,6 +145,23 @@ fn is_banking(k: u64, holidays: &[u32]) -> bool
     !is_listed(d.yymmdd, holidays)
 }
 
+impl BankingDays {
+    // One banking day more.
+    fn next(self) -> BankingDays
+        requires { ⌜ self .0 < 40000 ⌝ }
+        ensures { λ r. ⌜ r .0 ≡ self .0 + 1 ⌝ }
+    {
+        BankingDays(self.0 + 1)
+    }
+
+    // Whether these are more banking days than the others.
+    pub fn is_more_than(self, other: BankingDays) -> bool
+        ensures { λ r. ⌜ r ≡ moreThan self other ⌝ }
+    {
+        other.0 < self.0
+    }
+}
+
 // The first day that is not too old on day t: back from t until a sixth banking day is met.
 fn first_good(t: u64, holidays: &[u32]) -> u64
     requires { ⌜ t < 40000 ⌝ }
@@ -151,10 +171,11 @@ fn first_good(t: u64, holidays: &[u32]) -> u64
     let mut k = t;
     while 0 < k {
         if is_banking(k, holidays) {
-            if met.0 == 5 {
+            let more = met.next();
+            if more.is_more_than(TOO_OLD_AFTER) {
                 return k;
             }
-            met = BankingDays(met.0 + 1);
+            met = more;
         }
         k -= 1;
     }
@@ -220,39 +241,28 @@ impl Date {
 
     // The date so many calendar days later, 791231 at the latest.
     pub fn plus(self, days: CalendarDays) -> Date
-        ensures { λ r. ⌜ r .yymmdd ≡ later (self .yymmdd) (days .0) ⌝ }
+        ensures { λ r. ⌜ r .yymmdd ≡ later (self .yymmdd) days ⌝ }
     {
         date_of(self.day_number() + days.0 as u64)
-    }
-
-    // Whether this date is Monday to Friday and no holiday.
-    pub fn is_banking_day(self, holidays: &[u32]) -> bool
-        ensures { λ r. ⌜ r ≡ bankingDay (now (holidays .entry)) (dayNumber (self .yymmdd)) ⌝ }
-    {
-        is_banking(self.day_number(), holidays)
-    }
-
-    // The banking days after this date, up to today.
-    pub fn banking_days_after(self, today: Date, holidays: &[u32]) -> BankingDays
-        ensures { λ r. ⌜ r .0 ≡ bankingDaysAfter (now (holidays .entry)) (self .yymmdd) (today .yymmdd) ⌝ }
-    {
-        let t = today.day_number();
-        let mut k = self.day_number();
-        let mut n: u32 = 0;
-        while k < t {
-            k += 1;
-            if is_banking(k, holidays) {
-                n += 1;
-            }
-        }
-        BankingDays(n)
     }
 
     // Whether more than five banking days lie after this date, up to today.
     pub fn is_too_old(self, today: Date, holidays: &[u32]) -> bool
         ensures { λ r. ⌜ r ≡ tooOld (now (holidays .entry)) (self .yymmdd) (today .yymmdd) ⌝ }
     {
-        self.day_number() < first_good(today.day_number(), holidays)
+        let t = today.day_number();
+        let mut k = self.day_number();
+        let mut met = BankingDays(0);
+        while k < t {
+            k += 1;
+            if is_banking(k, holidays) {
+                met = met.next();
+                if met.is_more_than(TOO_OLD_AFTER) {
+                    return true;
+                }
+            }
+        }
+        false
     }
 
     // The earliest date that is not too old on this one.

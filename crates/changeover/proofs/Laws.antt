@@ -10,6 +10,7 @@ use Rattle.ground.specs.Choice.{both, either, fails, pick}
 use Rattle.ground.proofs.Choices.{left, right, join, picks, skips}
 use Rattle.calendar.specs.Dates.{realDate, later}
 use Rattle.calendar.specs.declared.Date.{Date}
+use Rattle.calendar.specs.declared.CalendarDays.{CalendarDays}
 use Rattle.calendar.proofs.Days.{date-real, later-after}
 use Rattle.keys.specs.Parity.{oddParity}
 use Rattle.keys.specs.Keys.{nextGeneration}
@@ -75,16 +76,16 @@ changedUntil old generation key today last =
           });
     }
 
-pub until : (old : KeyPair) (generation key : ℕ) (today : Date) (last days : ℕ) → last ≡ later (today .yymmdd) days
+pub until : (old : KeyPair) (generation key : ℕ) (today : Date) (last : ℕ) (days : CalendarDays) → last ≡ later (today .yymmdd) days
     → changedUntil old generation key today last ≡ changed old generation key (today .yymmdd) days
 unfolding changed
 until old generation key today last days e = ap (changedUntil old generation key today) e
 
-later-real : (d n : ℕ) → realDate (later d n) ≡ true
+later-real : (d : ℕ) (n : CalendarDays) → realDate (later d n) ≡ true
 unfolding later
 later-real d n = date-real _
 
-pub changed-sound : (old : KeyPair) (generation key today days : ℕ) → soundKeys old ≡ true
+pub changed-sound : (old : KeyPair) (generation key today : ℕ) (days : CalendarDays) → soundKeys old ≡ true
     → generation ≡ nextGeneration (old .generation) → oddParity key ≡ true → realDate today ≡ true
     → soundKeys (changed old generation key today days) ≡ true
 unfolding changed soundKeys soundPrevious
@@ -178,7 +179,7 @@ next-differs g e = by (ltb g 9) refl
     by true h = omega (arith, sym (picks (ltb g 9) (g + 1) 1 h) ∙ e)
     by false h = omega (arith, sym (skips (ltb g 9) (g + 1) 1 h) ∙ e, ltb-false g 9 h)
 
-pub after-change : (old : KeyPair) (key today days : ℕ)
+pub after-change : (old : KeyPair) (key today : ℕ) (days : CalendarDays)
     → heldKey (changed old (nextGeneration (old .generation)) key today days) (old .generation) ≡ Is (old .key)
 unfolding changed heldKey previousNamed
 after-change old key today days =

@@ -2,6 +2,7 @@
 -- Assumes nothing.
 use Prim.Native.Nat.{ℕ}
 use Rattle.calendar.specs.Dates.{later}
+use Rattle.calendar.specs.declared.CalendarDays.{CalendarDays}
 use Rattle.keys.specs.Keys.{nextGeneration}
 use Rattle.customer.specs.declared.Previous.{Previous}
 use Rattle.customer.specs.declared.Previous.the-variants.{Nothing, Held}
@@ -9,7 +10,7 @@ use Rattle.customer.specs.declared.KeyPair.{KeyPair}
 use Rattle.customer.specs.declared.Customer.{Customer}
 
 -- a new key starts today; the one before it is the previous one, from today to today plus the length in calendar days
-unfoldable pub changed : KeyPair → ℕ → ℕ → ℕ → ℕ → KeyPair
+unfoldable pub changed : KeyPair → ℕ → ℕ → ℕ → CalendarDays → KeyPair
 changed old generation key today days =
     record {
       generation = generation;

@@ -91,11 +91,11 @@ pub fn change(
     generation: u32,
     key: u64,
     today: calendar::Date,
-    days: u32,
+    days: calendar::CalendarDays,
 ) -> customer::KeyPair
     ensures { λ r. ⌜ r ≡ changed old generation key (today .yymmdd) days ⌝ }
 {
-    let last = today.plus(calendar::CalendarDays(days));
+    let last = today.plus(days);
     let before = customer::Changeover {
         generation: old.generation,
         key: old.key,
@@ -119,6 +119,7 @@ fn with_keys(
     ensures { λ r. ⌜ r ≡ withKeys c transport working ⌝ }
 {
     let who = c.who;
+    let length = c.length;
     let stamps = c.stamps;
     let once = c.once;
     customer::Customer {
@@ -126,7 +127,7 @@ fn with_keys(
         types: c.types,
         agreed: c.agreed,
         leave: c.leave,
-        length: c.length,
+        length: length,
         transport: transport,
         working: working,
         count: c.count,
@@ -145,8 +146,9 @@ pub fn with_transport(
     ensures { λ r. ⌜ r ≡ withTransport c generation key (today .yymmdd) ⌝ }
 {
     let old = c.transport;
+    let days = c.length;
     let working = c.working;
-    let transport = change(old, generation, key, today, c.length);
+    let transport = change(old, generation, key, today, days);
     with_keys(c, transport, working)
 }
 
@@ -156,8 +158,9 @@ pub fn with_working(c: customer::Customer, key: u64, today: calendar::Date) -> c
 {
     let transport = c.transport;
     let old = c.working;
+    let days = c.length;
     let generation = keys::next_generation(old.generation);
-    let working = change(old, generation, key, today, c.length);
+    let working = change(old, generation, key, today, days);
     with_keys(c, transport, working)
 }
 

@@ -5,7 +5,7 @@ use mathlib.Core.Bool.{Bool, true, false}
 use mathlib.Core.List.{List, [], _∷_, _++_}
 use lib.Dec.{eqb, ltb, leb}
 use lib.ListN.{length}
-use Rattle.ground.specs.Choice.{either, fails, pick}
+use Rattle.ground.specs.Choice.{both, either, fails}
 use Rattle.ground.specs.Lists.{same}
 use Rattle.calendar.specs.Dates.{earlier}
 use Rattle.calendar.specs.Banking.{tooOld}
@@ -21,37 +21,26 @@ use Rattle.acceptance.specs.Stamps.{holdsStamp, liveStamps, onceUsed}
 use Rattle.table.specs.Table.{Table, placeOf, isUnknown}
 use Rattle.table.specs.Named.{named}
 use Rattle.message.specs.Layout.{fieldText}
-use Rattle.message.specs.Rules.{faultOf}
+use Rattle.message.specs.Order.{Check}
+use Rattle.message.specs.Rules.{formOf, formChecks}
 use Rattle.message.specs.Fields.{receiverOf, senderOf, stampTextOf, stampOf, dateOfStamp, versionOf, transportGenerationOf, workingGenerationOf, digestFieldOf, checksumFieldOf}
-use Rattle.message.specs.declared.Kind.{Kind}
 use Rattle.message.specs.declared.Kind.the-variants.{Esi, Suo, Var}
-use Rattle.message.specs.declared.Fault.{Fault}
-use Rattle.message.specs.declared.Fault.the-variants.{Sound, Found}
-use Rattle.checks.specs.declared.Collected.{Collected}
+use Rattle.message.specs.declared.About.the-variants.{Answered, Closing}
+use Rattle.message.specs.declared.Collected.{Collected}
 use Rattle.checks.specs.declared.Frame.{Frame}
 
--- a check: its code, the field that it names (0 for none), and whether it fails
-pub record Check : Type 0 where
-  pub code : ℕ
-  pub field : ℕ
-  pub failed : Bool
-
+-- a check that names no field, and one that names a field of the message that is answered (an ESI, a frame's SUO)
 abbrev pub check : ℕ → Bool → Check
-check c f = record { code = c; field = 0; failed = f }
+check c f = record { code = c; field = 0; about = Answered; failed = f }
 
 abbrev pub checkField : ℕ → ℕ → Bool → Check
-checkField c n f = record { code = c; field = n; failed = f }
-
--- the first failing check's code and field; none fails in a message that is accepted
-unfoldable pub firstFailing : List Check → Fault
-firstFailing [] = Sound
-firstFailing (c ∷ cs) = pick (c .failed) (Found (c .code) (c .field)) (firstFailing cs)
+checkField c n f = record { code = c; field = n; about = Answered; failed = f }
 
 -- ---- what single checks ask
 
--- data type n, given at opening, is among the customer's
+-- data type n, given at opening, is among the customer's: bit n - 1 of the types; there is no type 0
 unfoldable pub typeAllowed : ℕ → ℕ → Bool
-typeAllowed types n = eqb (types / 2 ^ (n - 1) % 2) 1
+typeAllowed types n = both (ltb 0 n) (eqb (types / 2 ^ (n - 1) % 2) 1)
 
 -- the checksum of a message under a working key is not the one it carries; without a key none is
 unfoldable pub checksumDiffers : Key → List ℕ → Bool
@@ -72,23 +61,6 @@ keyOr0 Missing = 0
 keyOr0 (Key·Is k) = k
 
 -- ---- the checks that both orders share
-
--- a fault of form has that code
-unfoldable pub faultIs : ℕ → Fault → Bool
-faultIs code Sound = false
-faultIs code (Found c f) = eqb c code
-
-unfoldable pub faultField : Fault → ℕ
-faultField Sound = 0
-faultField (Found c f) = f
-
--- 1032; 1010 lowest field first; 1011 likewise
-unfoldable pub formChecks : Kind → Collected → List Check
-formChecks kind m =
-    let fault : Fault = faultOf kind (m .alone) (m .blank) (m .text) in
-    checkField 1032 (faultField fault) (faultIs 1032 fault) ∷
-    checkField 1010 (faultField fault) (faultIs 1010 fault) ∷
-    checkField 1011 (faultField fault) (faultIs 1011 fault) ∷ []
 
 -- 1012 version below the floor; 1021 receiver not this bank; 1033 sender unknown (qualifiers count); 1035 known but not agreed
 unfoldable pub partyChecks : Table → List ℕ → List Check
@@ -111,19 +83,27 @@ roomChecks t c today = check 1034 (leb 64 (length (liveStamps (t .holidays) toda
 
 -- ---- the ESI
 
+-- 1013 and 1014: a generation neither current, nor previous with the stamp's date within first to last day; 1020 the checksum
+unfoldable pub esiKeyChecks : Customer → List ℕ → List Check
+esiKeyChecks c m =
+    check 1013 (fails (goodFor (c .transport) (transportGenerationOf m) (dateOfStamp m))) ∷
+    check 1014 (fails (goodFor (c .working) (workingGenerationOf m) (dateOfStamp m))) ∷
+    check 1020 (checksumDiffers (heldKey (c .working) (workingGenerationOf m)) m) ∷ []
+
 unfoldable pub esiChecks : Table → ℕ → Collected → List Check
 esiChecks t today m =
     let c : Customer = named t (senderOf (m .text)) in
-    let date : ℕ = dateOfStamp (m .text) in
-    formChecks Esi m ++
+    formChecks (formOf Esi) Answered m ++
     partyChecks t (m .text) ++
     stampChecks t c today (m .text) ++
-    (check 1013 (fails (goodFor (c .transport) (transportGenerationOf (m .text)) date)) ∷
-    check 1014 (fails (goodFor (c .working) (workingGenerationOf (m .text)) date)) ∷
-    check 1020 (checksumDiffers (heldKey (c .working) (workingGenerationOf (m .text))) (m .text)) ∷ []) ++
+    esiKeyChecks c (m .text) ++
     roomChecks t c today
 
 -- ---- the frame
+
+-- 1025: the data type given at opening is not allowed
+unfoldable pub typeChecks : Customer → ℕ → List Check
+typeChecks c dataType = check 1025 (fails (typeAllowed (c .types) dataType)) ∷ []
 
 -- the same field of SUO and VAR
 abbrev pub unequal : ℕ → List ℕ → List ℕ → Check
@@ -157,10 +137,10 @@ keyChecks t c today f =
 unfoldable pub frameChecks : Table → ℕ → ℕ → Frame → List Check
 frameChecks t today dataType f =
     let c : Customer = named t (senderOf (f .suo .text)) in
-    formChecks Suo (f .suo) ++
-    formChecks Var (f .var) ++
+    formChecks (formOf Suo) Answered (f .suo) ++
+    formChecks (formOf Var) Closing (f .var) ++
     partyChecks t (f .suo .text) ++
-    (check 1025 (fails (typeAllowed (c .types) dataType)) ∷ []) ++
+    typeChecks c dataType ++
     pairChecks (f .suo .text) (f .var .text) ++
     stampChecks t c today (f .suo .text) ++
     keyChecks t c today f ++

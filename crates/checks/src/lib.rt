@@ -1,29 +1,22 @@
 // The checks on an ESI or a frame, in their order: the first that fails.
 ghost use mathlib.Core.Path.{_≡_};
-ghost use mathlib.Core.List.{[], _∷_};
+ghost use mathlib.Core.List.{List, [], _∷_, _++_};
 ghost use Prim.Native.Nat.{_-_, _≤_};
 ghost use Rattle.ground.specs.Choice.{either, fails};
 ghost use Rattle.ground.specs.Lists.{same, part};
-ghost use Rattle.changeover.specs.Held.{heldKey, goodFor};
+ghost use Rattle.changeover.specs.Held.{goodFor};
 ghost use Rattle.table.specs.Table.{Table, isUnknown};
 ghost use Rattle.table.specs.Named.{named};
 ghost use Rattle.table.specs.Decode.{tableOf};
-ghost use Rattle.message.specs.Rules.{orElse};
-ghost use Rattle.message.specs.Fields.{senderOf, dateOfStamp, transportGenerationOf, workingGenerationOf};
-ghost use Rattle.checks.specs.Checks.{check, checkField, firstFailing, typeAllowed, checksumDiffers, digestDiffers, isMissing, keyOr0, formChecks, partyChecks, stampChecks, roomChecks, esiChecks, pairChecks, keyChecks, frameChecks};
-
-// A message as it was collected: one record alone (1 too short, 2 length not digits, 3 length not the layout's; 0 collected whole),
-// whether the characters over in its last record were blank, and its characters.
-pub struct Collected {
-    pub alone: u32,
-    pub blank: bool,
-    pub text: [u8; 161],
-}
+ghost use Rattle.message.specs.Order.{Check, firstFailing};
+ghost use Rattle.message.specs.Rules.{formOf, formChecks};
+ghost use Rattle.message.specs.Fields.{receiverOf, senderOf};
+ghost use Rattle.checks.specs.Checks.{checkField, typeAllowed, checksumDiffers, digestDiffers, isMissing, keyOr0, partyChecks, stampChecks, roomChecks, esiKeyChecks, esiChecks, pairChecks, keyChecks, frameChecks};
 
 // A frame at its VAR's end: the two messages, the one-time key deciphered at the SUO's end, and the digest of the records between.
 pub struct Frame {
-    pub suo: Collected,
-    pub var: Collected,
+    pub suo: message::Collected,
+    pub var: message::Collected,
     pub once: changeover::Key,
     pub digest: digest::Answer,
 }
@@ -41,18 +34,26 @@ fn fault_if(code: u32, field: u32, failed: bool) -> message::Fault
     ensures { λ r. ⌜ r ≡ firstFailing (checkField code field failed ∷ []) ⌝ }
 {
     if failed {
-        return message::Fault::Found { code, field };
+        return message::Fault::Found {
+            code,
+            field,
+            about: message::About::Answered,
+        };
     }
     message::Fault::Sound
 }
 
-// The second fault where there is no first.
+// The second fault where there is no first: of two lists of checks, one after the other.
 fn or_else(a: message::Fault, b: message::Fault) -> message::Fault
-    ensures { λ r. ⌜ r ≡ orElse a b ⌝ }
+    ensures { λ r. ⌜ ((xs ys : List Check) → a ≡ firstFailing xs → b ≡ firstFailing ys → r ≡ firstFailing (xs ++ ys)) ⌝ }
 {
     match a {
         message::Fault::Sound => b,
-        message::Fault::Found { code, field } => message::Fault::Found { code, field },
+        message::Fault::Found { code, field, about } => message::Fault::Found {
+            code,
+            field,
+            about,
+        },
     }
 }
 
@@ -88,11 +89,13 @@ fn differs(from: usize, to: usize, a: [u8; 161], b: [u8; 161]) -> bool
 fn is_type_refused(types: u32, n: u32) -> bool
     ensures { λ r. ⌜ r ≡ fails (typeAllowed types n) ⌝ }
 {
-    let k = if n == 0 { 0 } else { n - 1 };
-    if 32 <= k {
+    if n == 0 {
         return true;
     }
-    (types >> k) % 2 != 1
+    if 32 < n {
+        return true;
+    }
+    (types >> (n - 1)) % 2 != 1
 }
 
 fn checksum_differs(k: changeover::Key, m: [u8; 161]) -> bool
@@ -138,11 +141,21 @@ fn is_key_refused(
 }
 
 // 1032, 1010, 1011.
-fn form_faults(k: message::Kind, m: Collected) -> message::Fault
-    ensures { λ r. ⌜ r ≡ firstFailing (formChecks k m) ⌝ }
+fn form_faults(k: message::Kind, about: message::About, m: message::Collected) -> message::Fault
+    ensures { λ r. ⌜ r ≡ firstFailing (formChecks (formOf k) about m) ⌝ }
 {
     let text = m.text;
-    message::fault_of(k, m.alone, m.blank, text)
+    let extent = m.extent;
+    message::fault_of(k, about, extent, m.blank, &text)
+}
+
+// Whether the receiver is not this bank: identity and qualifier count.
+fn is_elsewhere(m: [u8; 161], bank: [u8; 25]) -> bool
+    ensures { λ r. ⌜ r ≡ fails (same (receiverOf m) bank) ⌝ }
+{
+    let receiver = message::receiver(m);
+    let width = 25;
+    !text::same_bytes(&receiver[..width], &bank[..width])
 }
 
 // 1012, 1021, 1033, 1035.
@@ -151,11 +164,10 @@ fn party_faults(t: &[u8], m: [u8; 161]) -> message::Fault
 {
     let settings = table::settings(t);
     let bank = settings.bank;
-    let receiver = message::receiver(m);
     let place = table::find(t, message::sender(m));
     let c = customer_of(t, m);
     let below = fault_if(1012, 0, message::version(m) < settings.floor);
-    let elsewhere = fault_if(1021, 0, !text::same_bytes(&receiver, &bank));
+    let elsewhere = fault_if(1021, 0, is_elsewhere(m, bank));
     let unknown = fault_if(1033, 0, is_no_place(place));
     let unagreed = fault_if(1035, 0, !c.agreed);
     or_else(below, or_else(elsewhere, or_else(unknown, unagreed)))
@@ -205,7 +217,7 @@ fn room_faults(holidays: &[u32], c: customer::Customer, today: calendar::Date) -
 
 // Of an ESI 1013, 1014, 1020.
 fn esi_key_faults(c: customer::Customer, m: [u8; 161]) -> message::Fault
-    ensures { λ r. ⌜ r ≡ firstFailing (check 1013 (fails (goodFor (c .transport) (transportGenerationOf m) (dateOfStamp m))) ∷ check 1014 (fails (goodFor (c .working) (workingGenerationOf m) (dateOfStamp m))) ∷ check 1020 (checksumDiffers (heldKey (c .working) (workingGenerationOf m)) m) ∷ []) ⌝ }
+    ensures { λ r. ⌜ r ≡ firstFailing (esiKeyChecks c m) ⌝ }
 {
     let date = message::date(m);
     let transport = c.transport;
@@ -257,7 +269,7 @@ fn key_faults(
 }
 
 // The first failing check of an ESI.
-pub fn check_esi(t: &[u8], o: Occasion, m: Collected) -> message::Fault
+pub fn check_esi(t: &[u8], o: Occasion, m: message::Collected) -> message::Fault
     ensures { λ r. ⌜ r ≡ firstFailing (esiChecks (tableOf (now (t .entry))) (o .today .yymmdd) m) ⌝ }
 {
     let text = m.text;
@@ -266,7 +278,7 @@ pub fn check_esi(t: &[u8], o: Occasion, m: Collected) -> message::Fault
     let holidays = table::holidays_in(t);
     let dates = holidays.dates;
     let n = holidays.count as usize;
-    let form = form_faults(message::Kind::Esi, m);
+    let form = form_faults(message::Kind::Esi, message::About::Answered, m);
     let party = party_faults(t, text);
     let stamp = stamp_faults(&dates[..n], c, today, text);
     let keys = esi_key_faults(c, text);
@@ -287,8 +299,8 @@ pub fn check_frame(t: &[u8], o: Occasion, f: Frame) -> message::Fault
     let holidays = table::holidays_in(t);
     let dates = holidays.dates;
     let n = holidays.count as usize;
-    let suo_form = form_faults(message::Kind::Suo, suo);
-    let var_form = form_faults(message::Kind::Var, var);
+    let suo_form = form_faults(message::Kind::Suo, message::About::Answered, suo);
+    let var_form = form_faults(message::Kind::Var, message::About::Closing, var);
     let party = party_faults(t, text);
     let kind = fault_if(1025, 0, is_type_refused(c.types, o.kind));
     let pair = pair_faults(text, closing);

@@ -1,6 +1,6 @@
 -- What is made of the calls' results at a message's end is the definition's: each result is put for its definition.
 -- Assumes nothing.
-use mathlib.Core.Path.{_≡_, refl}
+use mathlib.Core.Path.{_≡_, refl, sym, _∙_}
 use mathlib.Core.Bool.{Bool, true, false}
 use mathlib.Core.List.{List}
 use Prim.Native.Nat.{ℕ}
@@ -11,21 +11,27 @@ use Rattle.digest.specs.declared.Answer.{Answer}
 use Rattle.digest.specs.declared.Method.{Method}
 use Rattle.digest.specs.declared.Running.{Running}
 use Rattle.digest.specs.declared.State.{State}
+use Rattle.ground.proofs.Choices.{picks, skips}
 use Rattle.changeover.specs.declared.Key.{Key}
+use Rattle.changeover.specs.declared.Key.the-variants.{Missing}
 use Rattle.table.specs.Table.{Table, placeOf}
 use Rattle.table.specs.declared.Found.{Found}
 use Rattle.table.specs.Decode.{tableOf}
 use Rattle.message.specs.Fields.{senderOf, methodOf, transportGenerationOf}
+use Rattle.message.specs.Order.{firstFailing}
+use Rattle.message.specs.Rules.{formOf, formChecks}
+use Rattle.message.specs.declared.About.the-variants.{Answered}
+use Rattle.message.specs.declared.Kind.the-variants.{Suo}
 use Rattle.checks.specs.Checks.{keyOr0}
-use Rattle.verdict.specs.Outcomes.{esiOutcome, esiLeaves, frameOutcome, frameLeaves}
-use Rattle.checks.specs.declared.Collected.{Collected}
+use Rattle.verdict.specs.Outcomes.{isSound, esiOutcome, esiLeaves, frameOutcome, frameLeaves}
+use Rattle.message.specs.declared.Collected.{Collected}
 use Rattle.checks.specs.declared.Frame.{Frame}
 use Rattle.checks.specs.declared.Occasion.{Occasion}
 use Rattle.verdict.specs.declared.Outcome.{Outcome}
 use Rattle.notice.specs.Codes.{codeIn, codes}
 use Rattle.reply.specs.declared.Answering.{Answering}
 use Rattle.answers.specs.Answers.{verdictAnswer}
-use Rattle.whole.specs.Messages.{oneTime, transportHeld, oneTimeOf}
+use Rattle.whole.specs.Messages.{oneTime, transportHeld, oneTimeOf, onceOf}
 use Rattle.whole.specs.WholeFile.{occasion}
 use Rattle.session.specs.Events.{replies, nothing, placed, withBatch, judged, placeAfterEsi, esiDone, suoDone, frameBy, cipherOf, varDone, dataTaken}
 use Rattle.session.specs.declared.Gathered.{Gathered}
@@ -61,8 +67,19 @@ pub once-made : (t : Table) (suo : List ℕ) {who : List ℕ} {f : Found} {k onc
 unfolding oneTimeOf
 once-made t suo ew ef ek eo = rw (eo, ek, ef, ew)
 
+-- a faulty SUO carries none
+pub once-faulty : (t : Table) (m : Collected) {b : Bool} → b ≡ isSound (firstFailing (formChecks (formOf Suo) Answered m)) → b ≡ false
+    → Missing ≡ onceOf t m
+unfolding onceOf
+once-faulty t m h f = sym (skips _ _ _ (sym h ∙ f))
+
+pub once-sound : (t : Table) (m : Collected) {b : Bool} {once : Key} → b ≡ isSound (firstFailing (formChecks (formOf Suo) Answered m))
+    → b ≡ true → once ≡ oneTimeOf t (m .text) → once ≡ onceOf t m
+unfolding onceOf
+once-sound t m h f e = e ∙ sym (picks _ _ _ (sym h ∙ f))
+
 module _ (s : Session) {g : Gathered} {at z : Session} {run : Running} (eg : g ≡ nothing) (ea : at ≡ placed s InData (s .told) g) where
-  pub suo-made : (w : List ℕ) (k : Collected) {m : Collected} {once : Key} {x : State} → m ≡ k → once ≡ oneTimeOf (tableOf w) (m .text) → x ≡ begun → run ≡ alike x
+  pub suo-made : (w : List ℕ) (k : Collected) {m : Collected} {once : Key} {x : State} → m ≡ k → once ≡ onceOf (tableOf w) m → x ≡ begun → run ≡ alike x
       → z ≡ withBatch at (record { suo = m; once = once; running = run }) → z ≡ suoDone s w k
   unfolding suoDone
   suo-made w k em eo ex er ez = rw (ez, ea, eg, er, ex, eo, em)

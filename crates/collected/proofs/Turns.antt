@@ -4,10 +4,10 @@ use mathlib.Core.Path.{_≡_, refl, sym, ap, _∙_, subst}
 use mathlib.Core.Bool.{Bool, true, false, not}
 use mathlib.Core.List.{List}
 use Prim.Native.Nat.{ℕ}
-use borrow.Author.Tests.{eq-eqb, ne-eqb}
-use lib.Dec.{eqb}
 use Rattle.ground.specs.Choice.{pick}
 use Rattle.ground.proofs.Choices.{picks, skips}
+use Rattle.message.specs.declared.Extent.{Extent}
+use Rattle.whole.specs.Messages.{isWhole}
 use Rattle.session.specs.Events.{Turn, silent, replies, bareTurn}
 use Rattle.session.specs.declared.Session.{Session}
 use Rattle.session.specs.declared.Stepped.{Stepped}
@@ -25,12 +25,12 @@ module _ {A : Type 0} (P : A → Type 0) (x y : A) where
   pub left : (t b : Bool) → b ≡ t → b ≡ false → P y → P (pick t x y)
   left t b e h p = subst P (sym (skips t x y (sym e ∙ h))) p
 
-module _ {A : Type 0} (P : A → Type 0) (x : A) (f : ℕ → A) (n m : ℕ) (e : n ≡ m) where
-  pub goes-on : n ≡ 0 → P x → P (pick (eqb m 0) x (f m))
-  goes-on h p = taken P x (f m) (eqb m 0) (eqb m 0) refl (eq-eqb m 0 (sym e ∙ h)) p
+module _ {A : Type 0} (P : A → Type 0) (x : A) (f : Extent → A) (n m : Extent) (e : n ≡ m) (b : Bool) (h : b ≡ isWhole n) where
+  pub goes-on : b ≡ true → P x → P (pick (isWhole m) x (f m))
+  goes-on t p = taken P x (f m) (isWhole m) b (h ∙ ap isWhole e) t p
 
-  pub alone : (n ≡ 0 → ⊥) → P (f n) → P (pick (eqb m 0) x (f m))
-  alone h p = left P x (f m) (eqb m 0) (eqb m 0) refl (ne-eqb m 0 (λ z. h (e ∙ z))) (subst (λ (k : ℕ). P (f k)) e p)
+  pub alone : b ≡ false → P (f n) → P (pick (isWhole m) x (f m))
+  alone t p = left P x (f m) (isWhole m) b (h ∙ ap isWhole e) t (subst (λ (k : Extent). P (f k)) e p)
 
 -- ---- no reply, and a bare one: the table stays
 

@@ -4,7 +4,11 @@ ghost use mathlib.Core.List.{List};
 ghost use Prim.Native.Nat.{ℕ};
 ghost use Rattle.table.specs.Decode.{tableOf};
 ghost use Rattle.message.specs.declared.Kind.the-variants.{Esi, Suo, Var};
-ghost use Rattle.whole.specs.Messages.{oneTime, transportHeld, oneTimeOf};
+ghost use Rattle.message.specs.Order.{firstFailing};
+ghost use Rattle.message.specs.Rules.{formOf, formChecks};
+ghost use Rattle.message.specs.declared.About.the-variants.{Answered};
+ghost use Rattle.verdict.specs.Outcomes.{isSound};
+ghost use Rattle.whole.specs.Messages.{oneTime, transportHeld, oneTimeOf, onceOf};
 ghost use Rattle.session.specs.Events.{silent, bareTurn, collectedBy, placeAfterEsi, esiDone, suoDone, frameBy, varDone, dataTaken};
 
 // A step without a reply.
@@ -49,13 +53,13 @@ fn place_after_esi(accepted: bool) -> session::Place
 }
 
 // An ESI's end: refused, it closes the file.
-pub fn esi_done(s: session::Session, t: &mut [u8], alone: u32) -> session::Stepped
-    ensures { λ r. ⌜ r ≡ esiDone s (now (t .entry)) (collectedBy Esi alone (s .gathered)) .out ⌝ }
-    ensures { λ _. ⌜ now (t .exit) ≡ esiDone s (now (t .entry)) (collectedBy Esi alone (s .gathered)) .table ⌝ }
+pub fn esi_done(s: session::Session, t: &mut [u8], extent: message::Extent) -> session::Stepped
+    ensures { λ r. ⌜ r ≡ esiDone s (now (t .entry)) (collectedBy Esi extent (s .gathered)) .out ⌝ }
+    ensures { λ _. ⌜ now (t .exit) ≡ esiDone s (now (t .entry)) (collectedBy Esi extent (s .gathered)) .table ⌝ }
 {
     let gathered = s.gathered;
     let opening = s.opening;
-    let m = collecting::collected_by(message::Kind::Esi, alone, gathered);
+    let m = collecting::collected_by(message::Kind::Esi, extent, gathered);
     let text = m.text;
     let o = collecting::occasion_of(opening, s.made);
     let out = verdict::judge_esi(t, o, m);
@@ -105,14 +109,40 @@ fn one_time_of(t: &[u8], suo: [u8; 161]) -> changeover::Key
     one_time(transport_held(t, place, suo), suo)
 }
 
+// Whether a SUO has no fault of form.
+fn is_sound_suo(suo: message::Collected) -> bool
+    ensures { λ r. ⌜ r ≡ isSound (firstFailing (formChecks (formOf Suo) Answered suo)) ⌝ }
+{
+    let text = suo.text;
+    let extent = suo.extent;
+    let fault = message::fault_of(
+        message::Kind::Suo,
+        message::About::Answered,
+        extent,
+        suo.blank,
+        &text,
+    );
+    verdict::is_sound(fault)
+}
+
+// The one-time key that a SUO carries: a faulty one carries none.
+fn once_of(t: &[u8], suo: message::Collected) -> changeover::Key
+    ensures { λ r. ⌜ r ≡ onceOf (tableOf (now (t .entry))) suo ⌝ }
+{
+    if !is_sound_suo(suo) {
+        return changeover::Key::Missing;
+    }
+    let text = suo.text;
+    one_time_of(t, text)
+}
+
 // A SUO's end, faulty or not, opens a frame.
-pub fn suo_done(s: session::Session, t: &[u8], alone: u32) -> session::Session
-    ensures { λ r. ⌜ r ≡ suoDone s (now (t .entry)) (collectedBy Suo alone (s .gathered)) ⌝ }
+pub fn suo_done(s: session::Session, t: &[u8], extent: message::Extent) -> session::Session
+    ensures { λ r. ⌜ r ≡ suoDone s (now (t .entry)) (collectedBy Suo extent (s .gathered)) ⌝ }
 {
     let gathered = s.gathered;
-    let suo = collecting::collected_by(message::Kind::Suo, alone, gathered);
-    let text = suo.text;
-    let once = one_time_of(t, text);
+    let suo = collecting::collected_by(message::Kind::Suo, extent, gathered);
+    let once = once_of(t, suo);
     let running = digest::at_record(digest::start());
     let nothing = collecting::no_characters();
     let at = collecting::at_place(s, session::Place::InData, s.told, nothing);
@@ -120,7 +150,7 @@ pub fn suo_done(s: session::Session, t: &[u8], alone: u32) -> session::Session
 }
 
 // The frame at its VAR's end, with the digest of the records before.
-fn frame_by(s: session::Session, var: checks::Collected) -> checks::Frame
+fn frame_by(s: session::Session, var: message::Collected) -> checks::Frame
     ensures { λ r. ⌜ r ≡ frameBy s var ⌝ }
 {
     let batch = s.batch;
@@ -140,9 +170,9 @@ fn frame_by(s: session::Session, var: checks::Collected) -> checks::Frame
 }
 
 // A VAR's end: the frame's verdict.
-pub fn var_done(s: session::Session, t: &mut [u8], alone: u32) -> session::Stepped
-    ensures { λ r. ⌜ r ≡ varDone s (now (t .entry)) (collectedBy Var alone (s .gathered)) .out ⌝ }
-    ensures { λ _. ⌜ now (t .exit) ≡ varDone s (now (t .entry)) (collectedBy Var alone (s .gathered)) .table ⌝ }
+pub fn var_done(s: session::Session, t: &mut [u8], extent: message::Extent) -> session::Stepped
+    ensures { λ r. ⌜ r ≡ varDone s (now (t .entry)) (collectedBy Var extent (s .gathered)) .out ⌝ }
+    ensures { λ _. ⌜ now (t .exit) ≡ varDone s (now (t .entry)) (collectedBy Var extent (s .gathered)) .table ⌝ }
 {
     let gathered = s.gathered;
     let opening = s.opening;
@@ -150,7 +180,7 @@ pub fn var_done(s: session::Session, t: &mut [u8], alone: u32) -> session::Stepp
     let suo = batch.suo;
     let suo_text = suo.text;
     let sender = s.sender;
-    let m = collecting::collected_by(message::Kind::Var, alone, gathered);
+    let m = collecting::collected_by(message::Kind::Var, extent, gathered);
     let text = m.text;
     let o = collecting::occasion_of(opening, s.made);
     let f = frame_by(s, m);

@@ -18,7 +18,9 @@ use Rattle.text.specs.Numbers.{decimal}
 use Rattle.splices.proofs.Splice.{take-drop}
 use Rattle.message.specs.Layout.{layoutLength}
 use Rattle.message.specs.declared.Kind.{Kind}
-use Rattle.whole.specs.Messages.{aloneOf}
+use Rattle.message.specs.declared.Extent.{Extent}
+use Rattle.message.specs.declared.Extent.the-variants.{Whole, TooShort, LengthNotDigits, OtherLength}
+use Rattle.whole.specs.Messages.{extentOf}
 use Rattle.session.specs.Events.{held, collectedBy}
 use Rattle.session.specs.declared.Gathered.{Gathered}
 
@@ -49,7 +51,7 @@ some-over from n k l e h =
     let s : from + (k - from) ≡ k = omega arith in
     take-drop from (k - from) l ∙ ap (λ (i : ℕ). drop from (take i l)) (s ∙ e) ∙ ap (drop from) (take-kept n l)
 
-module _ (kind : Kind) (alone : ℕ) (g : Gathered) (len : ℕ) (b : Bool) (e : len ≡ layoutLength kind) (d : b ≡ allBlank (drop len (take (g .count) (g .text)))) where
+module _ (kind : Kind) (extent : Extent) (g : Gathered) (len : ℕ) (b : Bool) (e : len ≡ layoutLength kind) (d : b ≡ allBlank (drop len (take (g .count) (g .text)))) where
   over : (drop (layoutLength kind) (held g)) ≡ drop len (take (g .count) (g .text))
   unfolding held
   over = ap (λ (n : ℕ). drop n (take (g .count) (g .text))) (sym e)
@@ -57,21 +59,21 @@ module _ (kind : Kind) (alone : ℕ) (g : Gathered) (len : ℕ) (b : Bool) (e : 
   surplus : allBlank (drop (layoutLength kind) (held g)) ≡ b
   surplus = ap (λ (l : List ℕ). allBlank l) over ∙ sym d
 
-  made : (x : Bool) → both (allBlank (drop (layoutLength kind) (held g))) (g .blank) ≡ x → record { alone = alone; blank = x; text = g .text } ≡ collectedBy kind alone g
+  made : (x : Bool) → both (allBlank (drop (layoutLength kind) (held g))) (g .blank) ≡ x → record { extent = extent; blank = x; text = g .text } ≡ collectedBy kind extent g
   unfolding collectedBy
-  made x q = ap (λ (y : Bool). record { alone = alone; blank = y; text = g .text }) (sym q)
+  made x q = ap (λ (y : Bool). record { extent = extent; blank = y; text = g .text }) (sym q)
 
-  pub blank-over : b ≡ true → record { alone = alone; blank = g .blank; text = g .text } ≡ collectedBy kind alone g
+  pub blank-over : b ≡ true → record { extent = extent; blank = g .blank; text = g .text } ≡ collectedBy kind extent g
   blank-over t = made _ (decides _ _ (surplus ∙ t))
 
-  pub other-over : b ≡ false → record { alone = alone; blank = false; text = g .text } ≡ collectedBy kind alone g
+  pub other-over : b ≡ false → record { extent = extent; blank = false; text = g .text } ≡ collectedBy kind extent g
   other-over t = made _ (fails-left _ _ (surplus ∙ t))
 
--- ---- one record alone
+-- ---- what the first record tells
 
 module _ (kind : Kind) (n : ℕ) (l : List ℕ) where
-  pub under-eleven : length (take n l) < 11 → 1 ≡ aloneOf kind (take n l)
-  unfolding aloneOf
+  pub under-eleven : length (take n l) < 11 → TooShort ≡ extentOf kind (take n l)
+  unfolding extentOf
   under-eleven h = sym (picks _ _ _ (lt-ltb _ _ h))
 
   module _ (h : 11 ≤ length (take n l)) where
@@ -85,8 +87,8 @@ module _ (kind : Kind) (n : ℕ) (l : List ℕ) where
     past-eleven : {A : Type 0} (a b : A) → pick (ltb (length (take n l)) 11) a b ≡ b
     past-eleven a b = skips _ a b (le-ltb _ _ h)
 
-    pub letters-in-it : (b : Bool) → b ≡ all digit (part 5 3 l) → b ≡ false → 2 ≡ aloneOf kind (take n l)
-    unfolding aloneOf fails
+    pub letters-in-it : (b : Bool) → b ≡ all digit (part 5 3 l) → b ≡ false → LengthNotDigits ≡ extentOf kind (take n l)
+    unfolding extentOf fails
     letters-in-it b d f =
         sym (past-eleven _ _ ∙ picks _ _ _ (ap (λ (p : List ℕ). fails (all digit p)) whole-part ∙ ap fails (sym d ∙ f)))
 
@@ -101,14 +103,14 @@ module _ (kind : Kind) (n : ℕ) (l : List ℕ) where
           let s : length (take 3 (drop 5 l)) ≤ 19 = simp length-take (le-trans (min-le-left 3 (length (drop 5 l))) (omega arith)) in
           e ∙ ap decimal (take-all 19 (take 3 (drop 5 l)) s) ∙ ap decimal (sym whole-part)
 
-      pub other-length : (r ≡ len → ⊥) → 3 ≡ aloneOf kind (take n l)
-      unfolding aloneOf fails
+      pub other-length : (r ≡ len → ⊥) → OtherLength ≡ extentOf kind (take n l)
+      unfolding extentOf fails
       other-length w =
           let q : eqb (decimal (part 5 3 (take n l))) (layoutLength kind) ≡ false = ne-eqb _ _ (λ z. w (read ∙ z ∙ sym g)) in
           sym (past-eleven _ _ ∙ digits-in-it _ _ ∙ picks _ _ _ (ap fails q))
 
-      pub its-length : r ≡ len → 0 ≡ aloneOf kind (take n l)
-      unfolding aloneOf fails
+      pub its-length : r ≡ len → Whole ≡ extentOf kind (take n l)
+      unfolding extentOf fails
       its-length w =
           let q : eqb (decimal (part 5 3 (take n l))) (layoutLength kind) ≡ true = eq-eqb _ _ (sym read ∙ w ∙ g) in
           sym (past-eleven _ _ ∙ digits-in-it _ _ ∙ skips _ _ _ (ap fails q))

@@ -4,7 +4,7 @@ ghost use Prim.Native.Nat.{_≤_, min};
 ghost use lib.ListN.{length, take, drop};
 ghost use Rattle.ground.specs.Lists.{same};
 ghost use Rattle.text.specs.Characters.{allBlank};
-ghost use Rattle.whole.specs.Messages.{begins, aloneOf, wantsMore};
+ghost use Rattle.whole.specs.Messages.{begins, extentOf, isWhole, wantsMore};
 ghost use Rattle.whole.specs.WholeFile.{occasion};
 ghost use Rattle.session.specs.Events.{noReply, nothing, placed, withBatch, judged, shut, held, collectedBy, keepsOn, isEsi};
 ghost use Rattle.session.specs.Machine.{opened, unopened, withLine};
@@ -50,28 +50,40 @@ pub fn begins_var(g: session::Gathered) -> bool
     begins_with(text, g.count, b">>VAR")
 }
 
-// 1 under 11 characters, 2 a length that isn't digits, 3 one that isn't the layout's, else 0.
-fn alone_in(k: message::Kind, text: [u8; 161], count: usize) -> u32
-    ensures { λ r. ⌜ r ≡ aloneOf k (take count text) ⌝ }
+// What the first record tells of a message.
+fn extent_in(k: message::Kind, text: [u8; 161], count: usize) -> message::Extent
+    ensures { λ r. ⌜ r ≡ extentOf k (take count text) ⌝ }
 {
     let n = kept_count(text, count);
     if n < 11 {
-        return 1;
+        return message::Extent::TooShort;
     }
     if !text::all_digits(&text[5..8]) {
-        return 2;
+        return message::Extent::LengthNotDigits;
     }
     if text::number(&text[5..8]) != message::length_of(k) as u64 {
-        return 3;
+        return message::Extent::OtherLength;
     }
-    0
+    message::Extent::Whole
 }
 
-pub fn alone_of(k: message::Kind, g: session::Gathered) -> u32
-    ensures { λ r. ⌜ r ≡ aloneOf k (held g) ⌝ }
+pub fn extent_of(k: message::Kind, g: session::Gathered) -> message::Extent
+    ensures { λ r. ⌜ r ≡ extentOf k (held g) ⌝ }
 {
     let text = g.text;
-    alone_in(k, text, g.count)
+    extent_in(k, text, g.count)
+}
+
+pub fn is_whole(extent: message::Extent) -> bool
+    ensures { λ r. ⌜ r ≡ isWhole extent ⌝ }
+{
+    match extent {
+        message::Extent::Whole => true,
+        message::Extent::TooShort => false,
+        message::Extent::LengthNotDigits => false,
+        message::Extent::OtherLength => false,
+        message::Extent::CutShort => false,
+    }
 }
 
 pub fn wants_more(k: message::Kind, g: session::Gathered) -> bool
@@ -93,20 +105,24 @@ fn rest_blank(text: [u8; 161], count: usize, from: usize) -> bool
 }
 
 // The message with its characters; those over in its last record are blank or not.
-pub fn collected_by(k: message::Kind, alone: u32, g: session::Gathered) -> checks::Collected
-    ensures { λ r. ⌜ r ≡ collectedBy k alone g ⌝ }
+pub fn collected_by(
+    k: message::Kind,
+    extent: message::Extent,
+    g: session::Gathered,
+) -> message::Collected
+    ensures { λ r. ⌜ r ≡ collectedBy k extent g ⌝ }
 {
     let text = g.text;
     let rest = rest_blank(text, g.count, message::length_of(k));
     if rest {
-        return checks::Collected {
-            alone,
+        return message::Collected {
+            extent,
             blank: g.blank,
             text,
         };
     }
-    checks::Collected {
-        alone,
+    message::Collected {
+        extent,
         blank: false,
         text,
     }
@@ -283,8 +299,8 @@ fn no_batch() -> session::Batch
     ensures { λ r. ⌜ r ≡ unopened .batch ⌝ }
 {
     session::Batch {
-        suo: checks::Collected {
-            alone: 0,
+        suo: message::Collected {
+            extent: message::Extent::Whole,
             blank: false,
             text: [0; 161],
         },
@@ -311,7 +327,7 @@ pub fn opened_file(opening: answers::Opening) -> session::Session
     }
 }
 
-// No file: what a refused opening hands back.
+// No file: what a refused opening hands back, with every number in its range.
 pub fn no_file() -> session::Session
     ensures { λ r. ⌜ r ≡ unopened ⌝ }
 {
@@ -320,9 +336,9 @@ pub fn no_file() -> session::Session
         ended: false,
         told: false,
         opening: answers::Opening {
-            today: calendar::Date { yymmdd: 0 },
+            today: calendar::Date { yymmdd: 800101 },
             time: 0,
-            kind: 0,
+            kind: 1,
             clock: 0,
         },
         made: 0,

@@ -8,7 +8,7 @@ use native.Mathlib.Omega.{arith}
 use borrow.Author.Tests.{ltb-true, ltb-false, eq-eqb, ne-eqb}
 use lib.Dec.{eqb, ltb}
 use Rattle.ground.specs.Choice.{either, fails, between}
-use Rattle.ground.proofs.Choices.{picks, skips, either-left, either-decides, between-in, between-below, between-above}
+use Rattle.ground.proofs.Choices.{picks, skips, either-left, either-decides, between-in, between-below, between-above, fails-false}
 use Rattle.customer.proofs.Chain.{turned}
 use Rattle.calendar.specs.Dates.{realDate, earlier}
 use Rattle.table.specs.Table.{Table, placeOf, isUnknown}
@@ -44,16 +44,6 @@ said e p = sym e ∙ p
 
 pub unsaid : {r a v : Bool} → r ≡ a → not r ≡ v → fails a ≡ v
 unsaid e p = sym (turned e) ∙ p
-
-pub fails-false : (a : Bool) → fails a ≡ false → a ≡ true
-unfolding fails
-fails-false true e = refl
-fails-false false e = sym e
-
-pub fails-true : (a : Bool) → fails a ≡ true → a ≡ false
-unfolding fails
-fails-true true e = sym e
-fails-true false e = refl
 
 -- a test of which neither part holds
 pub neither : (a b : Bool) → either a b ≡ false → (a ≡ false) × (b ≡ false)

@@ -62,5 +62,5 @@ notNext current new = fails (eqb (nextGeneration current) new)
 
 -- a changeover length of 1 to 60; where none is given there is nothing to be out of its limits
 unfoldable pub badLength : Length → Bool
-badLength (Given n) = fails (between 1 60 n)
+badLength (Given n) = fails (between 1 60 (n .0))
 badLength LeftOut = false

@@ -11,7 +11,7 @@ ghost use Rattle.conditions.specs.Length.{lengthOf};
 
 // A changeover length: given, or left out.
 pub enum Length {
-    Given(u32),
+    Given(calendar::CalendarDays),
     LeftOut,
 }
 
@@ -70,12 +70,12 @@ pub fn is_not_next(current: u32, new: u32) -> bool
 }
 
 // The days of a changeover.
-pub fn days_of(l: Length) -> u32
+pub fn days_of(l: Length) -> calendar::CalendarDays
     ensures { λ r. ⌜ r ≡ lengthOf l ⌝ }
 {
     match l {
         Length::Given(n) => n,
-        Length::LeftOut => 30,
+        Length::LeftOut => calendar::CalendarDays(30),
     }
 }
 
@@ -85,10 +85,10 @@ pub fn is_bad_length(l: Length) -> bool
 {
     match l {
         Length::Given(n) => {
-            if n < 1 {
+            if n.0 < 1 {
                 return true;
             }
-            60 < n
+            60 < n.0
         }
         Length::LeftOut => false,
     }

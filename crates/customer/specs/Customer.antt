@@ -50,6 +50,6 @@ unfoldable pub soundCustomer : Customer → Bool
 soundCustomer c =
     both (soundWho (c .who))
     (both (ltb (c .types) (2 ^ 16))
-    (both (between 1 60 (c .length))
+    (both (between 1 60 (c .length .0))
     (both (soundKeys (c .transport))
     (both (soundKeys (c .working)) (both (leb (c .count) 64) (soundStamps (c .count) (c .stamps) (c .once)))))))

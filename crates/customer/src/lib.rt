@@ -30,7 +30,7 @@ pub struct Customer {
     pub types: u32,
     pub agreed: bool,
     pub leave: bool,
-    pub length: u32,
+    pub length: calendar::CalendarDays,
     pub transport: KeyPair,
     pub working: KeyPair,
     pub count: u32,
@@ -199,10 +199,10 @@ pub fn is_sound(c: Customer) -> bool
     if 65536 <= c.types {
         return false;
     }
-    if c.length < 1 {
+    if c.length.0 < 1 {
         return false;
     }
-    if 60 < c.length {
+    if 60 < c.length.0 {
         return false;
     }
     let transport = c.transport;

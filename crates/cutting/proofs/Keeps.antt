@@ -10,22 +10,28 @@ use Rattle.ground.specs.Choice.{pick}
 use Rattle.text.proofs.Lists.{picked}
 use Rattle.calendar.specs.Dates.{realDate}
 use Rattle.table.specs.Decode.{isTable, tableOf}
+use Rattle.message.specs.declared.Extent.{Extent}
+use Rattle.message.specs.declared.Extent.the-variants.{Whole, CutShort}
 use Rattle.message.specs.declared.Kind.{Kind}
 use Rattle.message.specs.declared.Kind.the-variants.{Esi, Suo, Var}
-use Rattle.checks.specs.declared.Collected.{Collected}
+use Rattle.message.specs.declared.Collected.{Collected}
 use Rattle.reply.specs.declared.Answering.{Answering}
 use Rattle.answers.specs.declared.Opening.{Opening}
 use Rattle.whole.specs.WholeFile.{occasion}
 use Rattle.session.specs.Lines.{Event, characters, recordEnds, sizePassed, eventOf, lineAfter, waited, lineEnded}
-use Rattle.session.specs.Events.{Turn, silent, replies, nothing, placed, withBatch, bareTurn, shut, heardBy, heard, collectedBy, esiDone, suoDone, frameBy, varDone, keepsOn, esiOn, suoOn, varOn, aloneBy, esiStart, suoStart, varStart, firstEnds, outsideEnds, dataTaken, frameEnds, collectingEnds, endsIn, recordEnded, passedIn, passed, cutShort, finishedIn, fileEnded}
+use Rattle.session.specs.Events.{Turn, silent, replies, nothing, placed, withBatch, bareTurn, shut, heardBy, heard, collectedBy, esiDone, suoDone, frameBy, varDone, keepsOn, esiOn, suoOn, varOn, extentBy, esiStart, suoStart, varStart, firstEnds, outsideEnds, dataTaken, frameEnds, collectingEnds, endsIn, recordEnded, passedIn, passed, cutShort, finishedIn, fileEnded}
 use Rattle.session.specs.Machine.{Scan, withLine, onEvent, stepped, scanOn, scanned, lastEnded}
-use Rattle.session.specs.Ranges.{Fits, isClosed}
+use Rattle.session.specs.Ranges.{isCut, Fits, isClosed}
 use Rattle.session.specs.declared.Line.{Line}
 use Rattle.session.specs.declared.Place.{Place}
 use Rattle.session.specs.declared.Place.the-variants.{BeforeEsi, Outside, Collecting, InData, Closed}
 use Rattle.session.specs.declared.Session.{Session}
+use Rattle.session.proofs.Fresh.{begun-fits, alike-fits}
+use Rattle.cutting.proofs.Running.{ended-fits}
 use Rattle.cutting.proofs.Leaves.{Still, esi-still, frame-still}
-use Rattle.cutting.proofs.Stays.{Stays, stays-same, stays-then, stays-line, stays-heard, stays-placed, stays-empty, stays-shut, stays-framed, stays-judged, alone-small, one-time-fits, sender-length}
+use Rattle.cutting.proofs.Stays.{Later, byte-later, end-later, extent-uncut, once-fits, sender-length, esi-made, frame-made}
+use Rattle.cutting.proofs.Stays.{Stays, stays-same, stays-then, stays-line, stays-heard, stays-placed, stays-empty, stays-shut}
+use Rattle.cutting.proofs.Stays.{stays-framed, stays-judged}
 
 -- the turn x, from the session s and the table w
 pub record Keeps (s : Session) (w : List ℕ) (x : Turn) : Type 0 where
@@ -82,12 +88,13 @@ keeps-bare w pte code field a = keeps-replies _ a (λ e f d. record { is-table =
 keeps-esi : (s : Session) (w : List ℕ) (m : Collected) → (Fits s → length (m .text) ≡ 161) → Keeps s w (esiDone s w m)
 unfolding esiDone occasion
 keeps-esi s w m l =
-    keeps-replies _ (stays-judged s _ _ _ (λ f. sender-length (m .text) (l f))) (λ e f d. esi-still w (occasion (s .opening) (s .made)) m e d (l f))
+    keeps-replies _ (stays-judged s _ _ _ (esi-made (tableOf w) (occasion (s .opening) (s .made)) m) (λ f. sender-length (m .text) (l f)))
+    (λ e f d. esi-still w (occasion (s .opening) (s .made)) m e d (l f))
 
 keeps-var : (s : Session) (w : List ℕ) (m : Collected) → Keeps s w (varDone s w m)
 unfolding varDone occasion frameBy
 keeps-var s w m =
-    keeps-replies _ (stays-judged s _ _ _ (λ f. f .sender-long))
+    keeps-replies _ (stays-judged s _ _ _ (frame-made (tableOf w) (occasion (s .opening) (s .made)) (frameBy s m)) (λ f. f .sender-long))
     (λ e f d. frame-still w (occasion (s .opening) (s .made)) (frameBy s m) e d (f .suo-long) (f .key-fits))
 
 -- ---- a session that is not closed
@@ -103,27 +110,31 @@ pub opens-on : (s : Session) (kind : Kind) → Opens s (keepsOn s kind)
 unfolding keepsOn placed isClosed
 opens-on s kind = record { moves = stays-placed s (Collecting kind) (s .told) (s .gathered) (λ h. h) (λ f. f .message-long); opens = refl }
 
-opens-suo : (s : Session) (w : List ℕ) (m : Collected) → m .alone ≤ 3 → (Fits s → length (m .text) ≡ 161) → Opens s (suoDone s w m)
+opens-suo : (s : Session) (w : List ℕ) (m : Collected) → isCut (m .extent) ≡ false → (Fits s → length (m .text) ≡ 161) → Opens s (suoDone s w m)
 unfolding suoDone placed withBatch isClosed
 opens-suo s w m a l =
-    record { moves = stays-framed s InData (s .told) _ (λ h. a) l (λ f. one-time-fits (tableOf w) (m .text)); opens = refl }
+    record {
+      moves = stays-framed s InData (s .told) _ (λ h. a) l (λ f. once-fits (tableOf w) m) (λ f. alike-fits begun-fits);
+      opens = refl;
+    }
 
 pub opens-data : (s : Session) → Opens s (dataTaken s)
 unfolding dataTaken placed withBatch isClosed
-opens-data s = record { moves = stays-framed s InData (s .told) _ (λ h. h) (λ f. f .suo-long) (λ f. f .key-fits); opens = refl }
+opens-data s =
+    record { moves = stays-framed s InData (s .told) _ (λ h. h) (λ f. f .suo-long) (λ f. f .key-fits) (ended-fits _); opens = refl }
 
 opens-skipped : (s : Session) → Opens s (placed s Outside true nothing)
 unfolding placed isClosed
 opens-skipped s = record { moves = stays-empty s Outside true; opens = refl }
 
 pub opens-suo-on : (s : Session) (w : List ℕ) → Opens s (suoOn s w)
-unfolding suoOn collectedBy
-opens-suo-on s w = picked (Opens s) _ _ _ (λ e. opens-on s Suo) (λ e. opens-suo s w _ (omega arith) (λ f. f .message-long))
+unfolding suoOn collectedBy isCut
+opens-suo-on s w = picked (Opens s) _ _ _ (λ e. opens-on s Suo) (λ e. opens-suo s w _ refl (λ f. f .message-long))
 
 pub opens-suo-start : (s : Session) (w : List ℕ) → Opens s (suoStart s w)
-unfolding suoStart collectedBy aloneBy
+unfolding suoStart collectedBy extentBy
 opens-suo-start s w =
-    picked (Opens s) _ _ _ (λ e. opens-suo-on s w) (λ e. opens-suo s w _ (alone-small Suo _) (λ f. f .message-long))
+    picked (Opens s) _ _ _ (λ e. opens-suo-on s w) (λ e. opens-suo s w _ (extent-uncut Suo _) (λ f. f .message-long))
 
 -- ---- a message
 
@@ -131,17 +142,17 @@ module _ (s : Session) (w : List ℕ) where
   either-keeps : (t : Bool) (x y : Turn) → Keeps s w x → Keeps s w y → Keeps s w (pick t x y)
   either-keeps t x y a b = picked (Keeps s w) t x y (λ e. a) (λ e. b)
 
-  esi-taken : (alone : ℕ) → Keeps s w (esiDone s w (collectedBy Esi alone (s .gathered)))
+  esi-taken : (extent : Extent) → Keeps s w (esiDone s w (collectedBy Esi extent (s .gathered)))
   unfolding collectedBy
-  esi-taken alone = keeps-esi s w (collectedBy Esi alone (s .gathered)) (λ f. f .message-long)
+  esi-taken extent = keeps-esi s w (collectedBy Esi extent (s .gathered)) (λ f. f .message-long)
 
   keeps-esi-on : Keeps s w (esiOn s w)
   unfolding esiOn
-  keeps-esi-on = either-keeps _ _ _ (opens-silent w (opens-on s Esi)) (esi-taken 0)
+  keeps-esi-on = either-keeps _ _ _ (opens-silent w (opens-on s Esi)) (esi-taken Whole)
 
   keeps-esi-start : Keeps s w (esiStart s w)
   unfolding esiStart
-  keeps-esi-start = either-keeps _ _ _ keeps-esi-on (esi-taken (aloneBy Esi s))
+  keeps-esi-start = either-keeps _ _ _ keeps-esi-on (esi-taken (extentBy Esi s))
 
   keeps-var-on : Keeps s w (varOn s w)
   unfolding varOn
@@ -213,7 +224,7 @@ module _ (s : Session) (w : List ℕ) where
 
   keeps-short : (kind : Kind) → Keeps s w (cutShort kind s w)
   unfolding cutShort
-  keeps-short Esi = esi-taken 1
+  keeps-short Esi = esi-taken CutShort
   keeps-short Suo = keeps-shut true 1032 0
   keeps-short Var = keeps-var s w _
 
@@ -231,9 +242,9 @@ module _ (s : Session) (w : List ℕ) where
 
 -- ---- the machine
 
-opens-line : (s : Session) (l : Line) (w : List ℕ) → Keeps s w (silent (withLine s l) w)
+opens-line : (s : Session) (l : Line) (w : List ℕ) → Later (s .line) l → Keeps s w (silent (withLine s l) w)
 unfolding withLine
-opens-line s l w = keeps-silent w (stays-line s l) (λ h. h)
+opens-line s l w k = keeps-silent w (stays-line s l k) (λ h. h)
 
 keeps-heard : (s : Session) (l : List ℕ) (w : List ℕ) → Keeps s w (silent (heard s l) w)
 unfolding heard heardBy
@@ -244,7 +255,7 @@ after-silent : {s u : Session} {w : List ℕ} {y : Turn} → Keeps s w (silent u
 unfolding silent
 after-silent a b = keeps-then a refl b
 
-keeps-event : (v : Event) (s : Session) (w : List ℕ) → Keeps s w (onEvent v s w)
+pub keeps-event : (v : Event) (s : Session) (w : List ℕ) → Keeps s w (onEvent v s w)
 unfolding onEvent
 keeps-event (characters l) s w = keeps-heard s l w
 keeps-event recordEnds s w = keeps-ended s w
@@ -253,7 +264,8 @@ keeps-event sizePassed s w = keeps-passed s w
 pub keeps-step : (s : Session) (w : List ℕ) (b : ℕ) → Keeps s w (stepped s w b)
 unfolding stepped
 keeps-step s w b =
-    let l = lineAfter (s .line) b in after-silent (opens-line s l w) (keeps-event (eventOf (s .line) b) (withLine s l) w)
+    let l = lineAfter (s .line) b in
+    after-silent (opens-line s l w (byte-later (s .line) b)) (keeps-event (eventOf (s .line) b) (withLine s l) w)
 
 pub keeps-scan : (xs : List ℕ) (s : Session) (w : List ℕ) → Keeps s w (scanned s w xs .turn)
 unfolding scanned scanOn
@@ -263,11 +275,17 @@ keeps-scan (b ∷ bs) s w =
     let k = keeps-step s w b in
     picked (λ (r : Scan). Keeps s w (r .turn)) (x .out .reply .given) _ _ (λ e. k) (λ e. keeps-then k e (keeps-scan bs (x .out .session) (x .table)))
 
+-- the file's end counts no byte
+pub heard-later : (s : Session) (l : List ℕ) → Later (heard s l .line) (lineEnded (s .line))
+unfolding heard heardBy
+heard-later s l = end-later (s .line)
+
 pub keeps-last : (s : Session) (w : List ℕ) → Keeps s w (lastEnded s w)
 unfolding lastEnded
 keeps-last s w =
     let u = heard s (waited (s .line .cr)) in
     let l = lineEnded (s .line) in
     either-keeps s w _ _ _
-    (after-silent (keeps-heard s (waited (s .line .cr)) w) (after-silent (opens-line u l w) (keeps-ended (withLine u l) w)))
+    (after-silent (keeps-heard s (waited (s .line .cr)) w)
+    (after-silent (opens-line u l w (heard-later s (waited (s .line .cr)))) (keeps-ended (withLine u l) w)))
     (keeps-idle s w)

@@ -12,9 +12,10 @@ use Rattle.table.specs.Decode.{tableOf, isTable}
 use Rattle.table.proofs.Decode.{rewritten-is}
 use Rattle.message.specs.declared.Fault.{Fault}
 use Rattle.message.specs.declared.Fault.the-variants.{Sound, Found as FaultFound}
-use Rattle.checks.specs.Checks.{firstFailing, esiChecks, frameChecks, keyOr0}
+use Rattle.message.specs.Order.{firstFailing}
+use Rattle.checks.specs.Checks.{esiChecks, frameChecks, keyOr0}
 use Rattle.verdict.specs.Outcomes.{tableBy, esiTable, frameTable, esiLeaves, frameLeaves}
-use Rattle.checks.specs.declared.Collected.{Collected}
+use Rattle.message.specs.declared.Collected.{Collected}
 use Rattle.checks.specs.declared.Frame.{Frame}
 use Rattle.checks.specs.declared.Occasion.{Occasion}
 use Rattle.verdict.proofs.Laws.{after-day}
@@ -30,7 +31,7 @@ pub record Still (b v : List ℕ) : Type 0 where
 by-day : (f : Fault) (t u : Table) → u .day ≡ t .day → tableBy f t u .day ≡ t .day
 unfolding tableBy
 by-day Sound t u e = e
-by-day (FaultFound c n) t u e = refl
+by-day (FaultFound c n a) t u e = refl
 
 esi-day : (t : Table) (o : Occasion) (m : Collected) → esiTable t o m .day ≡ t .day
 unfolding esiTable

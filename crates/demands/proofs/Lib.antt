@@ -1,7 +1,10 @@
 -- The proofs of the statements, in their order.
 pub mod Refusals
 pub mod Accepted
+pub mod Judged
 pub mod Stays
 pub mod Ranges
+pub mod Rooms
 pub mod Cuts
 pub mod Second
+pub mod Box

@@ -1,34 +1,55 @@
--- An opening is served with a real time and a data type of 1 to 16; a served read or end had a session in range, and no step leaves the range.
+-- A served opening had a real time and a data type of 1 to 16, a refused one hands back a session in range, and no step leaves the range.
 -- Assumes nothing.
 use Prim.Native.Nat.{ℕ}
-use mathlib.Core.Path.{_≡_, refl}
+use mathlib.Core.Path.{_≡_, refl, ap, _∙_}
 use mathlib.Core.List.{List, [], _∷_}
 use mathlib.Core.Bool.{Bool, true, false}
 use borrow.Author.Tests.{eqb-true, eqb-false}
 use lib.Dec.{eqb}
-use Rattle.ground.specs.Choice.{pick}
-use Rattle.ground.proofs.Choices.{left, right, join}
+use Rattle.ground.specs.Choice.{both, fails, pick, between}
+use Rattle.ground.proofs.Choices.{skips, left, right, join}
 use Rattle.text.proofs.Lists.{picked}
+use Rattle.calendar.specs.Dates.{realTime}
 use Rattle.table.specs.Decode.{tableOf}
 use Rattle.conditions.specs.Refusals.{refusal, lowest}
 use Rattle.conditions.proofs.Refused.{served, neither}
 use Rattle.answers.specs.declared.Opening.{Opening}
 use Rattle.session.specs.Events.{Turn, placed, nothing}
-use Rattle.session.specs.Machine.{lastEnded}
-use Rattle.session.specs.Ranges.{inRange, readRefused}
+use Rattle.session.specs.Machine.{lastEnded, unopened}
+use Rattle.session.specs.Ranges.{isCut, inRange, readRefused}
 use Rattle.session.specs.declared.Session.{Session}
 use Rattle.cutting.proofs.Keeps.{keeps-scan, keeps-last, keeps-file}
 use Rattle.cutting.proofs.Ranged.{in-range}
 use Rattle.calls.specs.Reading.{Done, awaits, finishes, refusedBy, servedBy, readServed, endServed, openingAnswer, openingGives, readingRefusals, endingRefusals, readDone, endDone}
-use Rattle.protocol.proofs.Good.{end-good, goes, goes-on}
+use Rattle.protocol.proofs.Good.{end-good, goes-on}
 use Rattle.protocol.proofs.Opened.{good-opened}
+use Rattle.law_edge.proofs.Asked.{read-asked, end-asked}
 use Rattle.demands.specs.Demands.{SessionsInRange}
 
-opening-ranged : (b : List ℕ) (o : Opening) → openingAnswer b o ≡ 0 → inRange (openingGives b o .session) ≡ true
-opening-ranged b o z = goes-on (end-good (good-opened b o z)) .ranged
+served-opening : (b : List ℕ) (o : Opening) → openingAnswer b o ≡ 0 → inRange (openingGives b o .session) ≡ true
+served-opening b o z = goes-on (end-good (good-opened b o z)) .ranged
+
+midnight : realTime 0 ≡ true
+unfolding realTime both
+midnight = refl
+
+unopened-ranged : inRange unopened ≡ true
+unfolding unopened inRange isCut fails nothing between
+unopened-ranged = join _ _ midnight (join _ _ (join _ _ refl refl) (join _ _ refl refl))
+
+refused-opening : (b : List ℕ) (o : Opening) → eqb (openingAnswer b o) 0 ≡ false → inRange (openingGives b o .session) ≡ true
+unfolding openingGives
+refused-opening b o e = ap inRange (skips {A = Session} _ _ _ e) ∙ unopened-ranged
+
+opening-ranged : (b : List ℕ) (o : Opening) → inRange (openingGives b o .session) ≡ true
+opening-ranged b o = by (eqb (openingAnswer b o) 0) refl
+  where
+    by : (v : Bool) → eqb (openingAnswer b o) 0 ≡ v → inRange (openingGives b o .session) ≡ true
+    by true e = served-opening b o (eqb-true _ 0 e)
+    by false e = refused-opening b o e
 
 -- what the third refusal asks
-third : (x y z : Bool) → lowest (refusal 1 x ∷ refusal 2 y ∷ refusal 3 z ∷ []) ≡ 0 → z ≡ false
+pub third : (x y z : Bool) → lowest (refusal 1 x ∷ refusal 2 y ∷ refusal 3 z ∷ []) ≡ 0 → z ≡ false
 third x y z e = served 3 _ _ refl (served 2 _ _ refl (served 1 _ _ refl e .1) .1) .0
 
 -- a call that is not refused hands back what the served one does
@@ -42,21 +63,13 @@ served-ranged n d s b room r =
 
 -- ---- a read
 
-read-had : (s : Session) (b room : List ℕ) → lowest (readingRefusals s b room) ≡ 0 → inRange s ≡ true
-unfolding readingRefusals readRefused
-read-had s b room z = goes s (tableOf b .day) (neither _ _ (third _ _ _ z) .1) .ranged
-
 reading-ranged : (s : Session) (b input room : List ℕ) → readDone s b input room .answer .refusal ≡ 0
     → inRange (readDone s b input room .answer .session) ≡ true
 unfolding readDone readServed servedBy
 reading-ranged s b input room =
-    served-ranged (lowest (readingRefusals s b room)) _ s b room (λ z. in-range (keeps-scan input s b) (read-had s b room z))
+    served-ranged (lowest (readingRefusals s b room)) _ s b room (λ z. in-range (keeps-scan input s b) (read-asked s b room z .ranged))
 
 -- ---- an end
-
-end-had : (s : Session) (b room : List ℕ) → lowest (endingRefusals s b room) ≡ 0 → inRange s ≡ true
-unfolding endingRefusals
-end-had s b room z = goes s (tableOf b .day) (third _ _ _ z) .ranged
 
 awaits-ranged : (s : Session) → inRange s ≡ true → inRange (awaits s) ≡ true
 unfolding inRange awaits
@@ -80,7 +93,7 @@ unfolding endDone
 ending-ranged s b room =
     served-ranged (lowest (endingRefusals s b room)) _ s b room
     (λ z.
-    let p = in-range (keeps-last s b) (end-had s b room z) in
+    let p = in-range (keeps-last s b) (end-asked s b room z .ranged) in
     end-served _ _ room p (in-range (keeps-file (lastEnded s b .out .session) (lastEnded s b .table)) p))
 
 pub sessions-in-range : SessionsInRange

@@ -7,6 +7,7 @@ use mathlib.Core.Bool.{Bool, true, false, false≢true}
 use native.Mathlib.Omega.{arith}
 use borrow.Author.Tests.{eqb-true}
 use lib.Dec.{eqb}
+use Rattle.ground.proofs.Choices.{fails-true}
 use Rattle.ground.specs.Choice.{both, fails, pick}
 use Rattle.text.proofs.Lists.{picked}
 use Rattle.table.specs.Table.{Table}
@@ -15,7 +16,6 @@ use Rattle.table.specs.Decode.{tableOf, isTable}
 use Rattle.table.proofs.Decode.{written-is, is-written}
 use Rattle.conditions.specs.Refusals.{Refusal, lowest, noTable}
 use Rattle.register.specs.Calls.{settingUpAnswer, addingAnswer, enteringAnswer, orderingAnswer}
-use Rattle.conditions.proofs.Refused.{fails-true}
 use Rattle.register.proofs.Laws.{rises, lowest-is, lowest-holds, setting-up-rises, adding-rises, entering-rises, ordering-rises}
 use Rattle.answers.specs.declared.Opening.{Opening}
 use Rattle.session.specs.Events.{fileEnded}
@@ -90,7 +90,7 @@ conditions-rise b (opening o) = opening-rises b o
 conditions-rise b (reading s input room) = reading-rises s b room
 conditions-rise b (ending s room) = ending-rises s b room
 
-gives-lowest : (b : List ℕ) (c : Call) → refusalOf b c ≡ lowest (conditionsOf b c)
+pub gives-lowest : (b : List ℕ) (c : Call) → refusalOf b c ≡ lowest (conditionsOf b c)
 unfolding refusalOf conditionsOf settingUpAnswer addingAnswer enteringAnswer orderingAnswer openingAnswer readDone endDone
 gives-lowest b (settingUp s holidays) = refl
 gives-lowest b (adding a) = refl

@@ -4,31 +4,45 @@ use Prim.Native.Nat.{ℕ, _+_, _<_}
 use mathlib.Core.Path.{_≡_, refl, sym, ap, _∙_, subst}
 use mathlib.Core.List.{List, [], _∷_, _++_}
 use mathlib.Core.Bool.{Bool, true, false, false≢true}
-use lib.ListN.{length}
+use lib.ListN.{length, length-append}
 use Rattle.ground.specs.Choice.{pick}
 use Rattle.ground.specs.Lists.{same}
-use Rattle.ground.proofs.Choices.{join, either-left, eq-same}
+use Rattle.ground.proofs.Choices.{left, join, either-left, eq-same, fails-true}
 use Rattle.customer.specs.declared.Customer.{Customer}
 use Rattle.table.specs.Table.{Table, placeFrom, placeOf, isUnknown, customerIn, withAdded, withDay, withSeed}
 use Rattle.table.specs.Named.{named, withNamed}
 use Rattle.table.specs.Decode.{tableOf}
 use Rattle.table.specs.declared.Found.the-variants.{At}
+use Rattle.table.proofs.Decode.{written-is}
 use Rattle.table.proofs.Places.{same-place, found-is, named-at, with-named-at}
-use Rattle.register.specs.Calls.{addedTo, enteredIn, orderedIn}
+use Rattle.register.specs.Calls.{newTable, newCustomer, addedTo, enteredIn, orderedIn}
 use Rattle.register.specs.declared.Adding.{Adding}
 use Rattle.register.specs.declared.Entering.{Entering}
 use Rattle.register.specs.declared.Ordering.{Ordering}
 use Rattle.register.proofs.Customers.{transport-who, working-who}
 use Rattle.register.proofs.Served.{entering-served, ordering-served}
-use Rattle.register.proofs.Laws.{Kept, adding-table, entering-table, ordering-table, added-others, entered-others, ordered-others, added-keeps, entered-keeps, ordered-keeps}
+use Rattle.register.proofs.Laws.{Kept, setting-up-table, adding-table, entering-table, ordering-table, added-others, entered-others, ordered-others, added-keeps, entered-keeps, ordered-keeps}
 use Rattle.message.specs.Fields.{receiverOf}
+use Rattle.verdict.proofs.Laws.{named-stays}
 use Rattle.calls.specs.Calls.{Call, settingUp, adding, entering, ordering, opening, reading, ending, Typed, refusalOf, leftBy, replyBy}
-use Rattle.history.specs.History.{isK, isSettingUp}
-use Rattle.history.proofs.Stays.{isHearing, e-reply-stays, hearing-spares, opening-table, call-table}
-use Rattle.demands.specs.Demands.{ENothing, isNamed, names, Stays, OthersStay, TablesStay}
+use Rattle.history.specs.History.{isK, isSettingUp, isHearing}
+use Rattle.history.proofs.Stays.{by-refusal, refused-stays, hearing-spares, hearing-e, opening-table, call-table}
+use Rattle.demands.specs.Demands.{noK, NoKNoChange, OpeningKeepsRecords, isNamed, names, Stays, OthersStay, TablesStay, dayAfter, countAfter, DayAndCount}
 
-pub e-nothing : ENothing
-e-nothing = e-reply-stays
+-- ---- without a reply with K
+
+no-k : (rs : List (List ℕ)) (r : List ℕ) → noK rs ≡ true → rs ≡ r ∷ [] → isK r ≡ true → ⊥
+unfolding noK
+no-k rs r n e k = false≢true (sym (fails-true _ (left _ _ (sym (ap noK e) ∙ n))) ∙ k)
+
+pub no-k-no-change : NoKNoChange
+no-k-no-change b c t h n = hearing-e b c h t (λ r e k. no-k (replyBy b c) r n e k)
+
+pub opening-keeps-records : OpeningKeepsRecords
+unfolding refusalOf leftBy withDay
+opening-keeps-records b o =
+    by-refusal b (opening o) (λ z. ap (λ (t : Table). t .customers) (opening-table b o z .1))
+    (λ z. ap (λ (w : List ℕ). tableOf w .customers) (refused-stays b (opening o) z))
 
 -- ---- what stays, from what the calls' laws say
 
@@ -147,3 +161,39 @@ others-stay b (ending s room) t n z = hearing-stays b (ending s room) refl t
 
 pub tables-stay : TablesStay
 tables-stay = call-table
+
+-- ---- the day and the number of customers
+
+-- of the table u, as a call leaves it
+abbrev Counted : ℕ → ℕ → Table → Type 0
+Counted day count u = (u .day ≡ day) × (length (u .customers) ≡ count)
+
+added-counted : (t : Table) (a : Adding) → Counted (a .today .yymmdd) (length (t .customers) + 1) (addedTo t a)
+unfolding addedTo withDay withAdded
+added-counted t a = (refl, length-append (t .customers) (newCustomer a ∷ []))
+
+entered-counted : (t : Table) (e : Entering) → Counted (e .today .yymmdd) (length (t .customers)) (enteredIn t e)
+unfolding enteredIn withDay
+entered-counted t e = (refl, named-stays t (e .who) _ .3)
+
+ordered-counted : (t : Table) (o : Ordering) → Counted (o .today .yymmdd) (length (t .customers)) (orderedIn t o)
+unfolding orderedIn withDay withSeed
+ordered-counted t o = (refl, named-stays t (o .who) _ .3)
+
+counted-as : (day count : ℕ) (u v : Table) → u ≡ v → Counted day count v → Counted day count u
+counted-as day count u v e k = subst (Counted day count) (sym e) k
+
+hearing-counted : (b : List ℕ) (c : Call) → isHearing c ≡ true → Typed c
+    → Counted (tableOf b .day) (length (tableOf b .customers)) (tableOf (leftBy b c))
+hearing-counted b c h t = let s = hearing-spares b c h t in (s .day, s .count)
+
+pub day-and-count : DayAndCount
+unfolding Typed refusalOf leftBy dayAfter countAfter isHearing newTable withDay
+day-and-count b (settingUp s holidays) t z =
+    counted-as _ _ _ _ (written-is _ _ (setting-up-table b s holidays z (t .0) (t .1) (t .2) (t .3)) .1) (refl, refl)
+day-and-count b (adding a) t z = counted-as _ _ _ _ (adding-table b a z t .1) (added-counted (tableOf b) a)
+day-and-count b (entering e) t z = counted-as _ _ _ _ (entering-table b e z .1) (entered-counted (tableOf b) e)
+day-and-count b (ordering o) t z = counted-as _ _ _ _ (ordering-table b o z .1) (ordered-counted (tableOf b) o)
+day-and-count b (opening o) t z = counted-as _ _ _ _ (opening-table b o z .1) (refl, refl)
+day-and-count b (reading s input room) t z = hearing-counted b (reading s input room) refl t
+day-and-count b (ending s room) t z = hearing-counted b (ending s room) refl t

@@ -14,7 +14,7 @@ use Rattle.des.specs.Tables.{boxes}
 use Rattle.des.proofs.Laws.{Each, none}
 use Rattle.digest.specs.Mac.{mac, checksumOf}
 use Rattle.digest.specs.Kept.{isEmpty, stripped, keptOf, kept, digestOf}
-use Rattle.digest.specs.Running.{begun, fedByte, fedBytes, closed, answered, alike, tookByte, tookBytes, ended, undone, tookRecords}
+use Rattle.digest.specs.Running.{begun, fedByte, fedBytes, closed, answered, alike, tookByte, tookBytes, ended, tookRecords}
 use Rattle.digest.specs.declared.Method.{Method}
 use Rattle.digest.specs.declared.Method.the-variants.{Skh, Ske}
 use Rattle.digest.specs.declared.State.{State}
@@ -65,10 +65,6 @@ module _ (e : ℕ → ℕ) where
     unfolding ended keptOf
     ended-stands Skh = ap (λ (r : Running). alike (r .solid)) took-stands
     ended-stands Ske = ap (λ (r : Running). alike (r .last)) took-stands
-
-    pub undone-stands : undone (tookBytes e (alike s) p) ≡ alike s
-    unfolding undone
-    undone-stands = ap (λ (r : Running). alike (r .start)) took-stands
 
   -- records join
   pub records-stand : (m : Method) (s : State) (records : List (List ℕ))

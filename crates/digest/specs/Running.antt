@@ -63,10 +63,6 @@ unfoldable pub ended : Method → Running → Running
 ended Skh r = alike (r .solid)
 ended Ske r = alike (r .last)
 
--- the record was no data: the digest goes on as at its start
-unfoldable pub undone : Running → Running
-undone r = alike (r .start)
-
 -- records one after the other, each with its end
 unfoldable pub tookRecords : (ℕ → ℕ) → Method → Running → List (List ℕ) → Running
 tookRecords e m r [] = r

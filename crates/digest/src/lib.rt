@@ -4,7 +4,7 @@ ghost use Prim.Native.Nat.{_<_};
 ghost use lib.ListN.{take};
 ghost use Rattle.des.specs.Des.{cipherBy};
 ghost use Rattle.digest.specs.Mac.{checksumOf};
-ghost use Rattle.digest.specs.Running.{begun, fedByte, closed, answered, alike, tookByte, tookBytes, ended, undone};
+ghost use Rattle.digest.specs.Running.{begun, fedByte, closed, answered, alike, tookByte, tookBytes, ended};
 
 // SKH leaves out the blanks at the end of each record, SKE keeps them.
 pub enum Method {
@@ -46,17 +46,10 @@ pub fn start() -> State
 pub fn feed(boxes: &[u8; 512], keys: [u64; 16], s: State, b: u8) -> State
     ensures { λ r. ⌜ r ≡ fedByte (cipherBy (now (boxes .entry)) keys) s b ⌝ }
 {
-    fed(boxes, &keys, s, b)
-}
-
-// The same by lent keys: they are copied only where a block is enciphered.
-fn fed(boxes: &[u8; 512], keys: &[u64; 16], s: State, b: u8) -> State
-    ensures { λ r. ⌜ r ≡ fedByte (cipherBy (now (boxes .entry)) (now (keys .entry))) s b ⌝ }
-{
     let block = (s.block << 8) + wide(b);
     let n = std::num::wrapping_add_u64(s.n, 1);
     if s.n % 8 == 7 {
-        let chain = des::rounds_by(boxes, *keys, s.chain ^ block);
+        let chain = des::rounds_by(boxes, keys, s.chain ^ block);
         return State { chain, block: 0, n };
     }
     State {
@@ -84,14 +77,14 @@ pub fn at_record(s: State) -> Running
 }
 
 // A record with one character more.
-fn took(boxes: &[u8; 512], keys: &[u64; 16], r: Running, b: u8) -> Running
-    ensures { λ x. ⌜ x ≡ tookByte (cipherBy (now (boxes .entry)) (now (keys .entry))) r b ⌝ }
+fn took(boxes: &[u8; 512], keys: [u64; 16], r: Running, b: u8) -> Running
+    ensures { λ x. ⌜ x ≡ tookByte (cipherBy (now (boxes .entry)) keys) r b ⌝ }
 {
     let start = r.start;
     let solid = r.solid;
     let last = r.last;
     let code = text::internal_code(b);
-    let next = fed(boxes, keys, last, code);
+    let next = feed(boxes, keys, last, code);
     if b == 0x20 {
         return Running {
             start,
@@ -109,13 +102,6 @@ fn took(boxes: &[u8; 512], keys: &[u64; 16], r: Running, b: u8) -> Running
 // A record with characters more.
 pub fn run(boxes: &[u8; 512], keys: [u64; 16], r: Running, bytes: &[u8]) -> Running
     ensures { λ x. ⌜ x ≡ tookBytes (cipherBy (now (boxes .entry)) keys) r (now (bytes .entry)) ⌝ }
-{
-    run_by(boxes, &keys, r, bytes)
-}
-
-// The same by lent keys.
-fn run_by(boxes: &[u8; 512], keys: &[u64; 16], r: Running, bytes: &[u8]) -> Running
-    ensures { λ x. ⌜ x ≡ tookBytes (cipherBy (now (boxes .entry)) (now (keys .entry))) r (now (bytes .entry)) ⌝ }
 {
     let mut x = r;
     let mut i = 0;
@@ -136,14 +122,6 @@ pub fn end_record(m: Method, r: Running) -> Running
         Method::Skh => at_record(short),
         Method::Ske => at_record(whole),
     }
-}
-
-// The record was no data.
-pub fn undo_record(r: Running) -> Running
-    ensures { λ x. ⌜ x ≡ undone r ⌝ }
-{
-    let s = r.start;
-    at_record(s)
 }
 
 // The MAC where it stops here.

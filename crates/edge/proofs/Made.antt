@@ -1,24 +1,30 @@
 -- What each call is handed is what the numbers and bytes say, and what it answers is packed and stored.
 -- Assumes nothing.
-use Prim.Native.Nat.{ℕ, _+_, _*_, _%_, _^_, _<_, _≤_}
+use Prim.Native.Nat.{ℕ, _<_, _≤_}
 use mathlib.Core.Path.{_≡_, refl, sym, ap, _∙_}
-use mathlib.Core.Bool.{Bool, true, false}
-use mathlib.Core.List.{List, [], _∷_, _++_, append-nil}
+use mathlib.Core.Bool.{true, false}
+use mathlib.Core.List.{List, [], append-nil}
 use native.Mathlib.Omega.{arith}
-use lib.Dec.{eqb, ltb}
-use lib.ListN.{length, take, drop, replicate, drop-of-length-le}
+use lib.Dec.{eqb}
+use lib.ListN.{length, replicate, drop-of-length-le}
 use lib.Seq.{take-all}
 use borrow.Author.Tests.{eq-eqb, ne-eqb, lt-ltb, le-ltb}
-use Rattle.ground.specs.Choice.{both, pick, one}
+use Rattle.ground.specs.Choice.{pick}
 use Rattle.ground.specs.Lists.{overlay}
 use Rattle.ground.proofs.Choices.{join, fails-left, fails-right, picks, skips}
 use Rattle.session_bytes.specs.Session.{sessionSize, sessionIn, sessionStored}
 use Rattle.session.specs.declared.Session.{Session}
+use Rattle.register.specs.Calls.{settingUpAnswer, addingAnswer, enteringAnswer, orderingAnswer}
+use Rattle.register.specs.Calls.{settingUpLeaves, addingLeaves, enteringLeaves, orderingLeaves}
 use Rattle.answers.specs.declared.Opening.{Opening}
 use Rattle.calls.specs.Reading.{Done, openingGives, openingLeaves, readDone, endDone}
 use Rattle.calls.specs.declared.Answer.{Answer}
 use Rattle.calls.specs.declared.OpenAnswer.{OpenAnswer}
-use Rattle.edge.specs.Edge.{fixed, isFlag, typesBy, sessionAfterOpening, sessionAfter, packed, openingBy, readBy, endBy}
+use Rattle.calls.specs.Calls.{refusalOf, leftBy}
+use Rattle.edge.specs.Edge.{fixed, isFlag, typesBy, settingBy, addingBy, enteringBy, orderingBy, openingBy, readBy, endBy}
+use Rattle.edge.specs.Edge.{sessionAfterOpening, sessionAfter, packed}
+use Rattle.edge.specs.Box.{lpSetUp, lpAdd, lpEnter, lpOrder, lpOpen, lpRead, lpEnd}
+use Rattle.edge.specs.Box.{callOf, boxAnswer, boxTable, boxSession, boxRoom, MeetsBox}
 
 -- ---- arrays of a slice
 
@@ -79,31 +85,74 @@ pub kept : (session : List ℕ) (a : Answer) → (a .refusal ≡ 0 → ⊥) → 
 unfolding sessionAfter
 kept session a e = sym (skips _ (sessionStored session (a .session)) session (ne-eqb _ _ e))
 
+-- ---- the calls that keep a table, by what the calls below give
+
+module _ {w : List ℕ} {r : ℕ} {table : List ℕ} where
+  pub set-up-made : {bank software : List ℕ} {floor k v : ℕ} {holidays : List ℕ}
+      → (r ≡ settingUpAnswer w (settingBy bank software floor k v) holidays)
+      × (table ≡ settingUpLeaves w (settingBy bank software floor k v) holidays)
+      → MeetsBox w (lpSetUp bank software floor k v holidays) r table [] []
+  unfolding boxAnswer boxTable boxSession boxRoom callOf refusalOf leftBy
+  set-up-made d = record { answers = d .0; leaves = d .1; keeps = refl; shows = refl }
+
+  pub add-made : {today : ℕ} {who : List ℕ} {part1 part2 check generation types agreed leave given n : ℕ}
+      → (r ≡ addingAnswer w (addingBy today who part1 part2 check generation types agreed leave given n))
+      × (table ≡ addingLeaves w (addingBy today who part1 part2 check generation types agreed leave given n))
+      → MeetsBox w (lpAdd today who part1 part2 check generation types agreed leave given n) r table [] []
+  unfolding boxAnswer boxTable boxSession boxRoom callOf refusalOf leftBy
+  add-made d = record { answers = d .0; leaves = d .1; keeps = refl; shows = refl }
+
+  pub enter-made : {today : ℕ} {who : List ℕ} {part1 part2 check generation : ℕ}
+      → (r ≡ enteringAnswer w (enteringBy today who part1 part2 check generation))
+      × (table ≡ enteringLeaves w (enteringBy today who part1 part2 check generation))
+      → MeetsBox w (lpEnter today who part1 part2 check generation) r table [] []
+  unfolding boxAnswer boxTable boxSession boxRoom callOf refusalOf leftBy
+  enter-made d = record { answers = d .0; leaves = d .1; keeps = refl; shows = refl }
+
+  pub order-made : {today : ℕ} {who : List ℕ} {clock : ℕ}
+      → (r ≡ orderingAnswer w (orderingBy today who clock)) × (table ≡ orderingLeaves w (orderingBy today who clock))
+      → MeetsBox w (lpOrder today who clock) r table [] []
+  unfolding boxAnswer boxTable boxSession boxRoom callOf refusalOf leftBy
+  order-made d = record { answers = d .0; leaves = d .1; keeps = refl; shows = refl }
+
 -- ---- a read or an end, by what the calls below give
 
-pub heard-made : (session : List ℕ) (f : Session → Done) {s : Session} {a : Answer} {r : ℕ} {table room after : List ℕ} → s ≡ sessionIn session
-    → a ≡ f s .answer → table ≡ f s .table → room ≡ f s .room → after ≡ sessionAfter session a → r ≡ packed a
-    → (r ≡ packed (f (sessionIn session) .answer)) × ((table ≡ f (sessionIn session) .table)
-    × ((after ≡ sessionAfter session (f (sessionIn session) .answer)) × (room ≡ f (sessionIn session) .room)))
-heard-made session f es ea et em ef er =
+-- what the call f gives of the session that the bytes say
+record Heard (session : List ℕ) (d : Done) (r : ℕ) (table after room : List ℕ) : Type 0 where
+  number : r ≡ packed (d .answer)
+  left : table ≡ d .table
+  stores : after ≡ sessionAfter session (d .answer)
+  shown : room ≡ d .room
+
+heard-made : (session : List ℕ) (f : Session → Done) {s : Session} {a : Answer} {r : ℕ} {table room after : List ℕ} → s ≡ sessionIn session
+    → (a ≡ f s .answer) × ((table ≡ f s .table) × (room ≡ f s .room)) → after ≡ sessionAfter session a → r ≡ packed a
+    → Heard session (f (sessionIn session)) r table after room
+heard-made session f es d ef er =
     let g = ap f es in
-    let b = ea ∙ ap (λ (d : Done). d .answer) g in
-    (er ∙ ap packed b, (et ∙ ap (λ (d : Done). d .table) g, (ef ∙ ap (sessionAfter session) b, em ∙ ap (λ (d : Done). d .room) g)))
+    let b = d .0 ∙ ap (λ (x : Done). x .answer) g in
+    record {
+      number = er ∙ ap packed b;
+      left = d .1 .0 ∙ ap (λ (x : Done). x .table) g;
+      stores = ef ∙ ap (sessionAfter session) b;
+      shown = d .1 .1 ∙ ap (λ (x : Done). x .room) g;
+    }
 
 module _ (w session input room : List ℕ) {s : Session} {a : Answer} {r : ℕ} {table after shown : List ℕ} (es : s ≡ sessionIn session) where
   pub read-made : (a ≡ readDone s w input room .answer) × ((table ≡ readDone s w input room .table) × (shown ≡ readDone s w input room .room))
       → after ≡ sessionAfter session a → r ≡ packed a
-      → (r ≡ packed (readBy w session input room .answer)) × ((table ≡ readBy w session input room .table)
-      × ((after ≡ sessionAfter session (readBy w session input room .answer)) × (shown ≡ readBy w session input room .room)))
-  unfolding readBy
-  read-made d = heard-made session (λ (x : Session). readDone x w input room) es (d .0) (d .1 .0) (d .1 .1)
+      → MeetsBox w (lpRead session input room) r table after shown
+  unfolding readBy boxAnswer boxTable boxSession boxRoom callOf leftBy
+  read-made d ef er =
+      let h = heard-made session (λ (x : Session). readDone x w input room) es d ef er in
+      record { answers = h .number; leaves = h .left; keeps = h .stores; shows = h .shown }
 
   pub end-made : (a ≡ endDone s w room .answer) × ((table ≡ endDone s w room .table) × (shown ≡ endDone s w room .room))
       → after ≡ sessionAfter session a → r ≡ packed a
-      → (r ≡ packed (endBy w session room .answer)) × ((table ≡ endBy w session room .table)
-      × ((after ≡ sessionAfter session (endBy w session room .answer)) × (shown ≡ endBy w session room .room)))
-  unfolding endBy
-  end-made d = heard-made session (λ (x : Session). endDone x w room) es (d .0) (d .1 .0) (d .1 .1)
+      → MeetsBox w (lpEnd session room) r table after shown
+  unfolding endBy boxAnswer boxTable boxSession boxRoom callOf leftBy
+  end-made d ef er =
+      let h = heard-made session (λ (x : Session). endDone x w room) es d ef er in
+      record { answers = h .number; leaves = h .left; keeps = h .stores; shows = h .shown }
 
 -- ---- an opening, by what the call below gives
 
@@ -112,9 +161,16 @@ pub asked-by : (session : List ℕ) (today time kind clock : ℕ) {k : ℕ} → 
 unfolding openingBy
 asked-by session today time kind clock e = rw e
 
-pub opening-made : (w session : List ℕ) {o p : Opening} {a : OpenAnswer} {table after : List ℕ} → o ≡ p → a ≡ openingGives w o
+pub opening-made : (w session : List ℕ) (today time kind clock : ℕ) {o : Opening} {a : OpenAnswer} {table after : List ℕ}
+    → o ≡ openingBy session today time kind clock → a ≡ openingGives w o
     → table ≡ openingLeaves w o → after ≡ sessionAfterOpening session a
-    → (a .refusal ≡ openingGives w p .refusal) × ((table ≡ openingLeaves w p) × (after ≡ sessionAfterOpening session (openingGives w p)))
-opening-made w session e ea et ef =
+    → MeetsBox w (lpOpen session today time kind clock) (a .refusal) table after []
+unfolding boxAnswer boxTable boxSession boxRoom callOf refusalOf leftBy openingGives
+opening-made w session today time kind clock e ea et ef =
     let g = ea ∙ ap (openingGives w) e in
-    (ap (λ (x : OpenAnswer). x .refusal) g, (et ∙ ap (openingLeaves w) e, ef ∙ ap (sessionAfterOpening session) g))
+    record {
+      answers = ap (λ (x : OpenAnswer). x .refusal) g;
+      leaves = et ∙ ap (openingLeaves w) e;
+      keeps = ef ∙ ap (sessionAfterOpening session) g;
+      shows = refl;
+    }

@@ -1,11 +1,12 @@
 -- The calls for a box in C or Rust: numbers and lent bytes in place of structs (docs/FORMAT.md, include/lentilpot.h).
 -- Assumes nothing.
-use Prim.Native.Nat.{ℕ, _+_, _*_, _%_, _^_}
+use Prim.Native.Nat.{ℕ, _+_, _*_, _/_, _%_, _^_}
 use mathlib.Core.Bool.{Bool}
 use mathlib.Core.List.{List}
 use lib.Dec.{eqb, ltb}
 use lib.ListN.{length, replicate}
 use Rattle.ground.specs.Choice.{both, pick, one}
+use Rattle.calendar.specs.declared.CalendarDays.{CalendarDays}
 use Rattle.conditions.specs.declared.Length.{Length}
 use Rattle.conditions.specs.declared.Length.the-variants.{Given, LeftOut}
 use Rattle.register.specs.declared.Setting.{Setting}
@@ -30,7 +31,7 @@ unfoldable pub settingBy : List ℕ → List ℕ → ℕ → ℕ → ℕ → Set
 settingBy bank software floor k v =
     record { bank = fixed 25 bank; software = fixed 16 software; floor = floor; key = k; seed = v }
 
-unfoldable pub lengthBy : ℕ → ℕ → Length
+unfoldable pub lengthBy : ℕ → CalendarDays → Length
 lengthBy given n = pick (eqb given 0) LeftOut (Given n)
 
 -- yes-or-no numbers other than 0 and 1 are refusal 11, as types past the sixteenth are
@@ -49,7 +50,7 @@ addingBy today who part1 part2 check generation types agreed leave given n =
       types = typesBy types agreed leave given;
       agreed = eqb agreed 1;
       leave = eqb leave 1;
-      length = lengthBy given n;
+      length = lengthBy given (record { 0 = n });
     }
 
 unfoldable pub enteringBy : ℕ → List ℕ → ℕ → ℕ → ℕ → ℕ → Entering
@@ -86,6 +87,19 @@ sessionAfter session a = pick (eqb (a .refusal) 0) (sessionStored session (a .se
 -- bytes taken in bits 0 to 39, reply length in bits 40 to 55, finished in bit 56, the refusal in bits 57 to 63
 unfoldable pub packed : Answer → ℕ
 packed a = a .taken % 2 ^ 40 + 2 ^ 40 * (a .length % 2 ^ 16) + 2 ^ 56 * one (a .finished) + 2 ^ 57 * (a .refusal % 2 ^ 7)
+
+-- and as include/lentilpot.h has a box take it apart: lp_taken, lp_reply_length, lp_finished, lp_refusal
+unfoldable pub takenIn : ℕ → ℕ
+takenIn p = p % 2 ^ 40
+
+unfoldable pub lengthIn : ℕ → ℕ
+lengthIn p = p / 2 ^ 40 % 2 ^ 16
+
+unfoldable pub finishedIn : ℕ → Bool
+finishedIn p = eqb (p / 2 ^ 56 % 2) 1
+
+unfoldable pub refusalIn : ℕ → ℕ
+refusalIn p = p / 2 ^ 57
 
 unfoldable pub readBy : List ℕ → List ℕ → List ℕ → List ℕ → Done
 readBy table session input reply = readDone (sessionIn session) table input reply

@@ -1,2 +1,3 @@
 -- What the contracts of `edge` cite.
 pub mod Edge
+pub mod Box

@@ -1,12 +1,12 @@
 // The seven calls for a box in C or Rust: numbers and byte slices; the session is lent bytes of one length.
 ghost use mathlib.Core.Path.{_≡_};
+ghost use mathlib.Core.List.{[]};
 ghost use Prim.Native.Nat.{_%_, _<_, _^_};
 ghost use lib.Dec.{eqb};
 ghost use Rattle.ground.specs.Choice.{pick, one};
 ghost use Rattle.session_bytes.specs.Session.{sessionSize};
-ghost use Rattle.register.specs.Calls.{settingUpAnswer, settingUpLeaves, addingAnswer, addingLeaves, enteringAnswer, enteringLeaves, orderingAnswer, orderingLeaves};
-ghost use Rattle.calls.specs.Reading.{openingGives, openingLeaves};
-ghost use Rattle.edge.specs.Edge.{fixed, isFlag, settingBy, lengthBy, typesBy, addingBy, enteringBy, orderingBy, openingBy, sessionAfterOpening, sessionAfter, packed, readBy, endBy};
+ghost use Rattle.edge.specs.Edge.{fixed, lengthBy, typesBy, sessionAfterOpening, sessionAfter, packed};
+ghost use Rattle.edge.specs.Box.{MeetsBox, lpSetUp, lpAdd, lpEnter, lpOrder, lpOpen, lpRead, lpEnd};
 
 // Bytes of another length stand for zeros, which are no name.
 fn fixed25(bytes: &[u8]) -> [u8; 25]
@@ -44,7 +44,7 @@ fn types_by(types: u32, agreed: u32, leave: u32, given: u32) -> u32
     types
 }
 
-fn length_by(given: u32, n: u32) -> conditions::Length
+fn length_by(given: u32, n: calendar::CalendarDays) -> conditions::Length
     ensures { λ r. ⌜ r ≡ lengthBy given n ⌝ }
 {
     if given == 0 {
@@ -71,8 +71,9 @@ pub extern "C" fn lp_set_up(
     v: u64,
     holidays: &[u32],
 ) -> u32
-    ensures { λ r. ⌜ r ≡ settingUpAnswer (now (table .entry)) (settingBy (now (bank .entry)) (now (software .entry)) floor k v) (now (holidays .entry)) ⌝ }
-    ensures { λ _. ⌜ now (table .exit) ≡ settingUpLeaves (now (table .entry)) (settingBy (now (bank .entry)) (now (software .entry)) floor k v) (now (holidays .entry)) ⌝ }
+    ensures { λ r. ⌜ MeetsBox (now (table .entry))
+        (lpSetUp (now (bank .entry)) (now (software .entry)) floor k v (now (holidays .entry)))
+        r (now (table .exit)) [] [] ⌝ }
 {
     let s = register::Setting {
         bank: fixed25(bank),
@@ -99,8 +100,9 @@ pub extern "C" fn lp_add(
     given: u32,
     length: u32,
 ) -> u32
-    ensures { λ r. ⌜ r ≡ addingAnswer (now (table .entry)) (addingBy today (now (who .entry)) part1 part2 check generation types agreed leave given length) ⌝ }
-    ensures { λ _. ⌜ now (table .exit) ≡ addingLeaves (now (table .entry)) (addingBy today (now (who .entry)) part1 part2 check generation types agreed leave given length) ⌝ }
+    ensures { λ r. ⌜ MeetsBox (now (table .entry))
+        (lpAdd today (now (who .entry)) part1 part2 check generation types agreed leave given length)
+        r (now (table .exit)) [] [] ⌝ }
 {
     let a = register::Adding {
         today: calendar::Date { yymmdd: today },
@@ -112,7 +114,7 @@ pub extern "C" fn lp_add(
         types: types_by(types, agreed, leave, given),
         agreed: agreed == 1,
         leave: leave == 1,
-        length: length_by(given, length),
+        length: length_by(given, calendar::CalendarDays(length)),
     };
     front::add(table, a)
 }
@@ -127,8 +129,9 @@ pub extern "C" fn lp_enter(
     check: u32,
     generation: u32,
 ) -> u32
-    ensures { λ r. ⌜ r ≡ enteringAnswer (now (table .entry)) (enteringBy today (now (who .entry)) part1 part2 check generation) ⌝ }
-    ensures { λ _. ⌜ now (table .exit) ≡ enteringLeaves (now (table .entry)) (enteringBy today (now (who .entry)) part1 part2 check generation) ⌝ }
+    ensures { λ r. ⌜ MeetsBox (now (table .entry))
+        (lpEnter today (now (who .entry)) part1 part2 check generation)
+        r (now (table .exit)) [] [] ⌝ }
 {
     let e = register::Entering {
         today: calendar::Date { yymmdd: today },
@@ -143,8 +146,9 @@ pub extern "C" fn lp_enter(
 
 #[no_mangle]
 pub extern "C" fn lp_order(table: &mut [u8], today: u32, who: &[u8], clock: u64) -> u32
-    ensures { λ r. ⌜ r ≡ orderingAnswer (now (table .entry)) (orderingBy today (now (who .entry)) clock) ⌝ }
-    ensures { λ _. ⌜ now (table .exit) ≡ orderingLeaves (now (table .entry)) (orderingBy today (now (who .entry)) clock) ⌝ }
+    ensures { λ r. ⌜ MeetsBox (now (table .entry))
+        (lpOrder today (now (who .entry)) clock)
+        r (now (table .exit)) [] [] ⌝ }
 {
     let o = register::Ordering {
         today: calendar::Date { yymmdd: today },
@@ -165,11 +169,11 @@ fn kind_asked(length: usize, kind: u32) -> u32
 }
 
 // The session's bytes after an opening: a refused one leaves them.
-fn put_opened(session: &mut [u8], a: calls::OpenAnswer)
-    ensures { λ _. ⌜ now (session .exit) ≡ sessionAfterOpening (now (session .entry)) a ⌝ }
+fn put_opened(session: &mut [u8], o: calls::OpenAnswer)
+    ensures { λ _. ⌜ now (session .exit) ≡ sessionAfterOpening (now (session .entry)) o ⌝ }
 {
-    if a.refusal == 0 {
-        let s = a.session;
+    if o.refusal == 0 {
+        let s = o.session;
         session_bytes::store(session, s);
     }
 }
@@ -183,9 +187,9 @@ pub extern "C" fn lp_open(
     kind: u32,
     clock: u64,
 ) -> u32
-    ensures { λ r. ⌜ r ≡ openingGives (now (table .entry)) (openingBy (now (session .entry)) today time kind clock) .refusal ⌝ }
-    ensures { λ _. ⌜ now (table .exit) ≡ openingLeaves (now (table .entry)) (openingBy (now (session .entry)) today time kind clock) ⌝ }
-    ensures { λ _. ⌜ now (session .exit) ≡ sessionAfterOpening (now (session .entry)) (openingGives (now (table .entry)) (openingBy (now (session .entry)) today time kind clock)) ⌝ }
+    ensures { λ r. ⌜ MeetsBox (now (table .entry))
+        (lpOpen (now (session .entry)) today time kind clock)
+        r (now (table .exit)) (now (session .exit)) [] ⌝ }
 {
     let o = answers::Opening {
         today: calendar::Date { yymmdd: today },
@@ -254,10 +258,9 @@ pub extern "C" fn lp_read(
     input: &[u8],
     reply: &mut [u8],
 ) -> u64
-    ensures { λ r. ⌜ r ≡ packed (readBy (now (table .entry)) (now (session .entry)) (now (input .entry)) (now (reply .entry)) .answer) ⌝ }
-    ensures { λ _. ⌜ now (table .exit) ≡ readBy (now (table .entry)) (now (session .entry)) (now (input .entry)) (now (reply .entry)) .table ⌝ }
-    ensures { λ _. ⌜ now (session .exit) ≡ sessionAfter (now (session .entry)) (readBy (now (table .entry)) (now (session .entry)) (now (input .entry)) (now (reply .entry)) .answer) ⌝ }
-    ensures { λ _. ⌜ now (reply .exit) ≡ readBy (now (table .entry)) (now (session .entry)) (now (input .entry)) (now (reply .entry)) .room ⌝ }
+    ensures { λ r. ⌜ MeetsBox (now (table .entry))
+        (lpRead (now (session .entry)) (now (input .entry)) (now (reply .entry)))
+        r (now (table .exit)) (now (session .exit)) (now (reply .exit)) ⌝ }
 {
     let s = session_bytes::load(session);
     let a = front::read(table, s, input, reply);
@@ -267,10 +270,9 @@ pub extern "C" fn lp_read(
 
 #[no_mangle]
 pub extern "C" fn lp_end(table: &mut [u8], session: &mut [u8], reply: &mut [u8]) -> u64
-    ensures { λ r. ⌜ r ≡ packed (endBy (now (table .entry)) (now (session .entry)) (now (reply .entry)) .answer) ⌝ }
-    ensures { λ _. ⌜ now (table .exit) ≡ endBy (now (table .entry)) (now (session .entry)) (now (reply .entry)) .table ⌝ }
-    ensures { λ _. ⌜ now (session .exit) ≡ sessionAfter (now (session .entry)) (endBy (now (table .entry)) (now (session .entry)) (now (reply .entry)) .answer) ⌝ }
-    ensures { λ _. ⌜ now (reply .exit) ≡ endBy (now (table .entry)) (now (session .entry)) (now (reply .entry)) .room ⌝ }
+    ensures { λ r. ⌜ MeetsBox (now (table .entry))
+        (lpEnd (now (session .entry)) (now (reply .entry)))
+        r (now (table .exit)) (now (session .exit)) (now (reply .exit)) ⌝ }
 {
     let s = session_bytes::load(session);
     let a = front::end(table, s, reply);

@@ -11,7 +11,7 @@ fn esi_on(s: session::Session, t: &mut [u8]) -> session::Stepped
     if collecting::wants_more(message::Kind::Esi, gathered) {
         return collected::quiet(collecting::keeps_on(s, message::Kind::Esi));
     }
-    collected::esi_done(s, t, 0)
+    collected::esi_done(s, t, message::Extent::Whole)
 }
 
 // A record's end in a SUO.
@@ -22,7 +22,7 @@ fn suo_on(s: session::Session, t: &[u8]) -> session::Session
     if collecting::wants_more(message::Kind::Suo, gathered) {
         return collecting::keeps_on(s, message::Kind::Suo);
     }
-    collected::suo_done(s, t, 0)
+    collected::suo_done(s, t, message::Extent::Whole)
 }
 
 // A record's end in a VAR.
@@ -34,7 +34,7 @@ fn var_on(s: session::Session, t: &mut [u8]) -> session::Stepped
     if collecting::wants_more(message::Kind::Var, gathered) {
         return collected::quiet(collecting::keeps_on(s, message::Kind::Var));
     }
-    collected::var_done(s, t, 0)
+    collected::var_done(s, t, message::Extent::Whole)
 }
 
 // The first record of an ESI.
@@ -43,11 +43,11 @@ fn esi_start(s: session::Session, t: &mut [u8]) -> session::Stepped
     ensures { λ _. ⌜ now (t .exit) ≡ esiStart s (now (t .entry)) .table ⌝ }
 {
     let gathered = s.gathered;
-    let alone = collecting::alone_of(message::Kind::Esi, gathered);
-    if alone == 0 {
+    let extent = collecting::extent_of(message::Kind::Esi, gathered);
+    if collecting::is_whole(extent) {
         return esi_on(s, t);
     }
-    collected::esi_done(s, t, alone)
+    collected::esi_done(s, t, extent)
 }
 
 // The first record of a SUO.
@@ -55,11 +55,11 @@ fn suo_start(s: session::Session, t: &[u8]) -> session::Session
     ensures { λ r. ⌜ r ≡ suoStart s (now (t .entry)) ⌝ }
 {
     let gathered = s.gathered;
-    let alone = collecting::alone_of(message::Kind::Suo, gathered);
-    if alone == 0 {
+    let extent = collecting::extent_of(message::Kind::Suo, gathered);
+    if collecting::is_whole(extent) {
         return suo_on(s, t);
     }
-    collected::suo_done(s, t, alone)
+    collected::suo_done(s, t, extent)
 }
 
 // The first record of a VAR.
@@ -68,11 +68,11 @@ fn var_start(s: session::Session, t: &mut [u8]) -> session::Stepped
     ensures { λ _. ⌜ now (t .exit) ≡ varStart s (now (t .entry)) .table ⌝ }
 {
     let gathered = s.gathered;
-    let alone = collecting::alone_of(message::Kind::Var, gathered);
-    if alone == 0 {
+    let extent = collecting::extent_of(message::Kind::Var, gathered);
+    if collecting::is_whole(extent) {
         return var_on(s, t);
     }
-    collected::var_done(s, t, alone)
+    collected::var_done(s, t, extent)
 }
 
 // The first record: it must be an ESI's.
@@ -186,9 +186,9 @@ fn cut_short(k: message::Kind, s: session::Session, t: &mut [u8]) -> session::St
     ensures { λ _. ⌜ now (t .exit) ≡ cutShort k s (now (t .entry)) .table ⌝ }
 {
     match k {
-        message::Kind::Esi => collected::esi_done(s, t, 1),
+        message::Kind::Esi => collected::esi_done(s, t, message::Extent::CutShort),
         message::Kind::Suo => collected::bare(t, s, true, 1032, 0, collecting::closed_at(s)),
-        message::Kind::Var => collected::var_done(s, t, 1),
+        message::Kind::Var => collected::var_done(s, t, message::Extent::CutShort),
     }
 }
 

@@ -1,7 +1,5 @@
 // One run on a table at a time: TABLE.lock is made only if it is missing and holds the number of the process, and for `receive` the name of the
 // replies once TABLE.new is there. A lock that a dead process left is never taken over, since two runs could both do so: its mend is told.
-ghost use Prim.Native.Nat.{_≤_};
-ghost use lib.ListN.{length};
 use crate::files;
 use terminal::say;
 
@@ -86,21 +84,6 @@ pub fn unname_replies(table: &[u8]) {
 
 // ---- a lock that is there
 
-// Where the line that starts at `from` ends.
-fn line_end(s: &[u8], from: usize) -> usize
-    requires { ⌜ from ≤ length (now s) ⌝ }
-    ensures { λ r. ⌜ (from ≤ r) × (r ≤ length (now (s .entry))) ⌝ }
-{
-    let mut i = from;
-    while i < s.len() {
-        if s[i] == b'\n' {
-            return i;
-        }
-        i += 1;
-    }
-    i
-}
-
 fn tell(table: &[u8]) {
     let fd = files::open_beside(table, b".lock");
     if fd < 0 {
@@ -118,7 +101,7 @@ fn tell(table: &[u8]) {
 
 // What the lock says: its owner's number, and perhaps the name of the replies.
 fn tell_owner(table: &[u8], lock: &[u8]) {
-    let k = line_end(lock, 0);
+    let k = words::part_end(lock, 0, b'\n');
     let owner = words::digits(&lock[..k], 1, 9);
     let words::Number::Is(pid) = owner else {
         tell_unsigned(table);
@@ -131,7 +114,7 @@ fn tell_owner(table: &[u8], lock: &[u8]) {
     tell_dead(table, pid);
     if k < lock.len() {
         let from = k + 1;
-        let end = line_end(lock, from);
+        let end = words::part_end(lock, from, b'\n');
         tell_mend(table, &lock[from..end]);
     } else {
         tell_mend(table, b"");

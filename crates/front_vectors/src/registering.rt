@@ -53,7 +53,7 @@ fn length_at(line: &[u8], number: usize) -> conditions::Length {
             return conditions::Length::LeftOut;
         }
     }
-    conditions::Length::Given(small_at(line, number))
+    conditions::Length::Given(calendar::CalendarDays(small_at(line, number)))
 }
 
 // add DATE WHO P1 P2 CHECK GENERATION TYPES AGREED LEAVE LENGTH

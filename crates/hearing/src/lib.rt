@@ -3,7 +3,7 @@ ghost use mathlib.Core.Path.{_≡_};
 ghost use Rattle.des.specs.Des.{cipherBy};
 ghost use Rattle.session.specs.Lines.{lineAfter};
 ghost use Rattle.session.specs.Events.{isData, isDue, gatheredAll, batchWith, heardBy};
-ghost use Rattle.session.specs.Ranges.{isClosed, inRange, endRefused, readRefused};
+ghost use Rattle.session.specs.Ranges.{isCut, isClosed, inRange, endRefused, readRefused};
 
 pub fn is_data(p: session::Place) -> bool
     ensures { λ r. ⌜ r ≡ isData p ⌝ }
@@ -128,6 +128,19 @@ pub fn line_after(l: session::Line, b: u8) -> session::Line
     }
 }
 
+// Whether a message was cut short by the file's end.
+fn is_cut(extent: message::Extent) -> bool
+    ensures { λ r. ⌜ r ≡ isCut extent ⌝ }
+{
+    match extent {
+        message::Extent::Whole => false,
+        message::Extent::TooShort => false,
+        message::Extent::LengthNotDigits => false,
+        message::Extent::OtherLength => false,
+        message::Extent::CutShort => true,
+    }
+}
+
 // Whether each number of a session lies in its range.
 pub fn is_in_range(s: session::Session) -> bool
     ensures { λ r. ⌜ r ≡ inRange s ⌝ }
@@ -148,7 +161,8 @@ pub fn is_in_range(s: session::Session) -> bool
     if 161 < gathered.count {
         return false;
     }
-    suo.alone <= 3
+    let extent = suo.extent;
+    !is_cut(extent)
 }
 
 // Whether an end is refused (3): not open, closed, another day, a number out of its range.

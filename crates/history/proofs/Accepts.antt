@@ -19,13 +19,16 @@ use Rattle.message.specs.Fields.{senderOf, stampOf}
 use Rattle.message.specs.declared.Kind.the-variants.{Esi, Suo, Var}
 use Rattle.message.specs.declared.Fault.the-variants.{Sound}
 use Rattle.message.proofs.Laws.{sound-date}
-use Rattle.checks.specs.Checks.{firstFailing, formChecks, partyChecks, stampChecks, roomChecks, pairChecks, keyChecks, esiChecks, frameChecks, keyOr0}
+use Rattle.message.specs.Order.{firstFailing}
+use Rattle.message.specs.Rules.{formOf, formChecks}
+use Rattle.message.specs.declared.About.the-variants.{Answered, Closing}
+use Rattle.checks.specs.Checks.{partyChecks, stampChecks, roomChecks, esiKeyChecks, typeChecks, pairChecks, keyChecks, esiChecks, frameChecks, keyOr0}
 use Rattle.verdict.specs.Outcomes.{recordAfter, tableAfter, esiTable, frameTable}
-use Rattle.checks.specs.declared.Collected.{Collected}
+use Rattle.message.specs.declared.Collected.{Collected}
 use Rattle.checks.specs.declared.Frame.{Frame}
 use Rattle.checks.specs.declared.Occasion.{Occasion}
-use Rattle.checks.proofs.Order.{NoneFails, accepted, none-left, none-right}
-use Rattle.checks.proofs.Parts.{esiKeys, typeChecks, esiParts, frameParts, esi-parts, frame-parts}
+use Rattle.message.proofs.Order.{NoneFails, accepted, none-left, none-right}
+use Rattle.checks.proofs.Parts.{esiParts, frameParts, esi-parts, frame-parts}
 use Rattle.verdict.proofs.Laws.{Accepted, Marked, esi-accepted, frame-accepted, esi-marked, frame-marked, esi-others, frame-others, esi-is, frame-is, who-is, record-who, named-stays, after-day}
 
 -- the message m was accepted on the table t, and u is the table after it
@@ -46,11 +49,11 @@ esi-stamps : (t : Table) (today : ℕ) (m : Collected) → firstFailing (esiChec
     → NoneFails (stampChecks t (named t (senderOf (m .text))) today (m .text))
 esi-stamps t today m e =
     let c = named t (senderOf (m .text)) in
-    let l₃ = esiKeys c (m .text) ++ roomChecks t c today in
+    let l₃ = esiKeyChecks c (m .text) ++ roomChecks t c today in
     let l₂ = stampChecks t c today (m .text) ++ l₃ in
     let l₁ = partyChecks t (m .text) ++ l₂ in
     let n = accepted (esiParts t c today m) (ap firstFailing (sym (esi-parts t today m)) ∙ e) in
-    none-left (stampChecks t c today (m .text)) l₃ (none-right (partyChecks t (m .text)) l₂ (none-right (formChecks Esi m) l₁ n))
+    none-left (stampChecks t c today (m .text)) l₃ (none-right (partyChecks t (m .text)) l₂ (none-right (formChecks (formOf Esi) Answered m) l₁ n))
 
 frame-stamps : (t : Table) (today kind : ℕ) (f : Frame) → firstFailing (frameChecks t today kind f) ≡ Sound
     → NoneFails (stampChecks t (named t (senderOf (f .suo .text))) today (f .suo .text))
@@ -61,9 +64,9 @@ frame-stamps t today kind f e =
     let l₄ = pairChecks (f .suo .text) (f .var .text) ++ l₅ in
     let l₃ = typeChecks c kind ++ l₄ in
     let l₂ = partyChecks t (f .suo .text) ++ l₃ in
-    let l₁ = formChecks Var (f .var) ++ l₂ in
+    let l₁ = formChecks (formOf Var) Closing (f .var) ++ l₂ in
     let n = accepted (frameParts t c today kind f) (ap firstFailing (sym (frame-parts t today kind f)) ∙ e) in
-    let p = none-right (formChecks Var (f .var)) l₂ (none-right (formChecks Suo (f .suo)) l₁ n) in
+    let p = none-right (formChecks (formOf Var) Closing (f .var)) l₂ (none-right (formChecks (formOf Suo) Answered (f .suo)) l₁ n) in
     let b = none-right (typeChecks c kind) l₄ (none-right (partyChecks t (f .suo .text)) l₃ p) in
     none-left (stampChecks t c today (f .suo .text)) l₆ (none-right (pairChecks (f .suo .text) (f .var .text)) l₅ b)
 

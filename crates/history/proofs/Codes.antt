@@ -9,17 +9,21 @@ use mathlib.Core.Logic.{⊎-elim}
 use borrow.Author.Tests.{eqb-true}
 use Rattle.ground.specs.Choice.{both, fails, pick}
 use Rattle.ground.specs.Lists.{all, member}
-use Rattle.ground.proofs.Choices.{left, right, either-cases}
-use Rattle.conditions.proofs.Refused.{fails-true}
+use Rattle.ground.proofs.Choices.{left, right, either-cases, fails-true}
 use Rattle.acceptance.proofs.Grants.{codes as granted, grant-code}
 use Rattle.table.specs.Table.{Table}
 use Rattle.message.specs.declared.Fault.the-variants.{Found}
-use Rattle.checks.specs.Checks.{Check, firstFailing, formChecks, partyChecks, stampChecks, roomChecks, pairChecks, keyChecks, esiChecks, frameChecks}
+use Rattle.message.specs.Layout.{layout}
+use Rattle.message.specs.Order.{Check, firstFailing}
+use Rattle.message.specs.Rules.{eachField, formChecks}
+use Rattle.message.specs.declared.About.{About}
+use Rattle.checks.specs.Checks.{partyChecks, stampChecks, roomChecks, esiKeyChecks, typeChecks, pairChecks, keyChecks, esiChecks, frameChecks}
 use Rattle.verdict.specs.Outcomes.{grantTo}
-use Rattle.checks.specs.declared.Collected.{Collected}
+use Rattle.message.specs.declared.Collected.{Collected}
 use Rattle.checks.specs.declared.Frame.{Frame}
 use Rattle.checks.specs.declared.Occasion.{Occasion}
 use Rattle.notice.specs.Codes.{codeIn, codes}
+use Rattle.history.specs.History.{readingCodes}
 
 -- K or E, and bare or full
 abbrev pub isAccepted : ℕ → Bool
@@ -27,32 +31,6 @@ isAccepted code = codeIn code codes .accepted
 
 abbrev pub isBare : ℕ → Bool
 isBare code = codeIn code codes .bare
-
--- ---- the bare answers of the machine are E
-
-pub e1010 : isAccepted 1010 ≡ false
-unfolding codeIn pick
-e1010 = refl
-
-pub e1011 : isAccepted 1011 ≡ false
-unfolding codeIn pick
-e1011 = refl
-
-pub e1023 : isAccepted 1023 ≡ false
-unfolding codeIn pick
-e1023 = refl
-
-pub e1024 : isAccepted 1024 ≡ false
-unfolding codeIn pick
-e1024 = refl
-
-pub e1032 : isAccepted 1032 ≡ false
-unfolding codeIn pick
-e1032 = refl
-
-pub e1034 : isAccepted 1034 ≡ false
-unfolding codeIn pick
-e1034 = refl
 
 -- ---- what is granted is K, and full
 
@@ -69,6 +47,15 @@ granted-accepted = refl
 granted-full : all (λ c. fails (isBare c)) granted ≡ true
 unfolding all both fails codeIn pick
 granted-full = refl
+
+-- ---- the bare answers of the reading rules are E
+
+reading-all-e : all (λ c. fails (isAccepted c)) readingCodes ≡ true
+unfolding all both fails codeIn pick
+reading-all-e = refl
+
+pub reading-e : (code : ℕ) → member code readingCodes ≡ true → isAccepted code ≡ false
+reading-e code m = fails-true _ (all-member (λ c. fails (isAccepted c)) readingCodes code reading-all-e m)
 
 module _ (t : Table) (o : Occasion) (m closing : List ℕ) where
   granted-code : member (grantTo t o m closing .code) granted ≡ true
@@ -87,27 +74,29 @@ unfoldable allE : List Check → Bool
 allE [] = true
 allE (c ∷ cs) = both (fails (isAccepted (c .code))) (allE cs)
 
-first-e : (cs : List Check) (code field : ℕ) → allE cs ≡ true → firstFailing cs ≡ Found code field → isAccepted code ≡ false
+first-e : (cs : List Check) (code field : ℕ) (about : About) → allE cs ≡ true → firstFailing cs ≡ Found code field about
+    → isAccepted code ≡ false
 unfolding allE firstFailing pick
-first-e [] code field a e = absurd (let z : _≡_ {A = ℕ} 0 1 = cc in omega arith)
-first-e (c ∷ cs) code field a e = by (c .failed) e (first-e cs code field (right _ _ a))
+first-e [] code field about a e = absurd (let z : _≡_ {A = ℕ} 0 1 = cc in omega arith)
+first-e (c ∷ cs) code field about a e = by (c .failed) e (first-e cs code field about (right _ _ a))
   where
-    by : (t : Bool) → pick t (Found (c .code) (c .field)) (firstFailing cs) ≡ Found code field
-        → (firstFailing cs ≡ Found code field → isAccepted code ≡ false) → isAccepted code ≡ false
+    by : (t : Bool) → pick t (Found (c .code) (c .field) (c .about)) (firstFailing cs) ≡ Found code field about
+        → (firstFailing cs ≡ Found code field about → isAccepted code ≡ false) → isAccepted code ≡ false
     by true p r = let q : c .code ≡ code = cc in ap isAccepted (sym q) ∙ fails-true _ (left _ _ a)
     by false p r = r p
 
 esi-all-e : (t : Table) (today : ℕ) (m : Collected) → allE (esiChecks t today m) ≡ true
-unfolding allE esiChecks formChecks partyChecks stampChecks roomChecks both fails codeIn pick
+unfolding allE esiChecks formChecks eachField layout partyChecks stampChecks esiKeyChecks roomChecks both fails codeIn pick
 esi-all-e t today m = refl
 
 frame-all-e : (t : Table) (today kind : ℕ) (f : Frame) → allE (frameChecks t today kind f) ≡ true
-unfolding allE frameChecks formChecks partyChecks pairChecks stampChecks keyChecks roomChecks both fails codeIn pick
+unfolding allE frameChecks formChecks eachField layout partyChecks typeChecks pairChecks stampChecks keyChecks roomChecks both fails codeIn pick
 frame-all-e t today kind f = refl
 
-pub esi-e : (t : Table) (today : ℕ) (m : Collected) (code field : ℕ) → firstFailing (esiChecks t today m) ≡ Found code field → isAccepted code ≡ false
-esi-e t today m code field e = first-e (esiChecks t today m) code field (esi-all-e t today m) e
+pub esi-e : (t : Table) (today : ℕ) (m : Collected) (code field : ℕ) (about : About)
+    → firstFailing (esiChecks t today m) ≡ Found code field about → isAccepted code ≡ false
+esi-e t today m code field about e = first-e (esiChecks t today m) code field about (esi-all-e t today m) e
 
-pub frame-e : (t : Table) (today kind : ℕ) (f : Frame) (code field : ℕ) → firstFailing (frameChecks t today kind f) ≡ Found code field
-    → isAccepted code ≡ false
-frame-e t today kind f code field e = first-e (frameChecks t today kind f) code field (frame-all-e t today kind f) e
+pub frame-e : (t : Table) (today kind : ℕ) (f : Frame) (code field : ℕ) (about : About)
+    → firstFailing (frameChecks t today kind f) ≡ Found code field about → isAccepted code ≡ false
+frame-e t today kind f code field about e = first-e (frameChecks t today kind f) code field about (frame-all-e t today kind f) e

@@ -5,8 +5,9 @@ use mathlib.Core.Path.{_≡_, refl, sym, ap, _∙_, subst}
 use mathlib.Core.List.{List}
 use mathlib.Core.Bool.{Bool, true, false}
 use borrow.Author.Tests.{eqb-true}
-use lib.ListN.{length, length-replicate}
+use lib.ListN.{length, replicate, length-replicate}
 use Rattle.ground.proofs.Choices.{left, right}
+use Rattle.text.proofs.Lists.{picked}
 use Rattle.calendar.specs.Dates.{realDate}
 use Rattle.acceptance.specs.declared.Granted.{Granted}
 use Rattle.table.specs.Table.{Table, settingsFit, soundTable}
@@ -16,19 +17,23 @@ use Rattle.table.proofs.Sound.{parts}
 use Rattle.table.proofs.Decode.{is-written, rewritten-is}
 use Rattle.message.specs.declared.Fault.{Fault}
 use Rattle.message.specs.declared.Fault.the-variants.{Sound, Found}
-use Rattle.checks.specs.Checks.{firstFailing, esiChecks, frameChecks, keyOr0}
+use Rattle.message.specs.Order.{firstFailing}
+use Rattle.message.specs.declared.About.{About}
+use Rattle.checks.specs.Checks.{esiChecks, frameChecks, keyOr0}
 use Rattle.verdict.specs.Outcomes.{grantTo, outcomeOf, esiOutcome, frameOutcome, esiTable, frameTable, esiLeaves, frameLeaves}
-use Rattle.checks.specs.declared.Collected.{Collected}
+use Rattle.message.specs.declared.Collected.{Collected}
 use Rattle.checks.specs.declared.Occasion.{Occasion}
+use Rattle.verdict.specs.declared.Outcome.{Outcome}
 use Rattle.verdict.proofs.Laws.{esi-e-leaves, frame-e-leaves}
 use Rattle.verdict.proofs.Leaves.{esi-leaves-table, frame-leaves-table}
 use Rattle.reply.specs.declared.Answering.{Answering}
-use Rattle.answers.specs.Answers.{bareAnswer, verdictAnswer}
+use Rattle.answers.specs.Answers.{bareAnswer, fullAnswer, verdictAnswer}
 use Rattle.answers.specs.declared.Opening.{Opening}
+use Rattle.answers.proofs.Made.{verdict-code, verdict-full}
 use Rattle.whole.specs.WholeFile.{occasion}
 use Rattle.session.specs.Events.{Turn, silent, replies, bareTurn, esiDone, frameBy, varDone}
 use Rattle.session.specs.declared.Session.{Session}
-use Rattle.history.proofs.Codes.{isAccepted, isBare, grants-k, grants-full, esi-e, frame-e}
+use Rattle.history.proofs.Codes.{isAccepted, isBare, reading-e, grants-k, grants-full, esi-e, frame-e}
 use Rattle.history.proofs.Turns.{Turned, quiet, bare, esi, var}
 use Rattle.history.proofs.Accepts.{Took, esi-took, frame-took}
 
@@ -76,16 +81,42 @@ module _ (w : List ℕ) (e : isTable w ≡ true) where
 
   module _ (o : Opening) (pte : Bool) (g : Granted) (made : ℕ) (m closing after : List ℕ) (u : Session) (lm : length m ≡ 161) (lc : length closing ≡ 161)
       (is : isTable after ≡ true) where
-    by-verdict : (f : Fault) → ((c n : ℕ) → f ≡ Found c n → (after ≡ w) × (isAccepted c ≡ false))
+    -- its texts have their lengths, whichever form it takes
+    verdict-sized : (out : Outcome) → Sized (verdictAnswer (tableOf after) o pte out m closing)
+    unfolding verdictAnswer bareAnswer fullAnswer
+    verdict-sized out =
+        let l = table-long after is in
+        let z : length {A = ℕ} (replicate 161 0) ≡ 161 = length-replicate {A = ℕ} 161 0 in
+        picked Sized _ _ _ (λ e. record { bank = l .0; software = l .1; message = z; closing = z })
+        (λ e. record { bank = l .0; software = l .1; message = lm; closing = lc })
+
+    granted-full : isBare (g .code) ≡ false
+        → verdictAnswer (tableOf after) o pte (outcomeOf Sound g made) m closing ≡ fullAnswer (tableOf after) o pte (outcomeOf Sound g made) m closing
+    unfolding outcomeOf
+    granted-full b = verdict-full (tableOf after) o pte (outcomeOf Sound g made) m closing b
+
+    accepted-effect : {x : Answering} → x ≡ fullAnswer (tableOf after) o pte (outcomeOf Sound g made) m closing → isAccepted (g .code) ≡ true
+        → Took (tableOf w) (tableOf after) m
+        → Effect w (replies x u after)
+    unfolding replies fullAnswer outcomeOf
+    accepted-effect e k q =
+        let l = table-long after is in
+        subst (λ (x : Answering). Effect w (replies x u after)) (sym e)
+        (taken refl (record { bank = l .0; software = l .1; message = lm; closing = lc }) k refl is q)
+
+    refused-effect : (c n : ℕ) (a : About) → after ≡ w → isAccepted c ≡ false
+        → Effect w (replies (verdictAnswer (tableOf after) o pte (outcomeOf (Found c n a) g made) m closing) u after)
+    unfolding replies outcomeOf
+    refused-effect c n a t e =
+        refused refl (verdict-sized _)
+        (ap isAccepted (verdict-code (tableOf after) o pte (outcomeOf (Found c n a) g made) m closing) ∙ e)
+        t
+
+    by-verdict : (f : Fault) → ((c n : ℕ) (a : About) → f ≡ Found c n a → (after ≡ w) × (isAccepted c ≡ false))
         → (f ≡ Sound → Took (tableOf w) (tableOf after) m) → isAccepted (g .code) ≡ true → isBare (g .code) ≡ false
         → Effect w (replies (verdictAnswer (tableOf after) o pte (outcomeOf f g made) m closing) u after)
-    unfolding replies verdictAnswer outcomeOf
-    by-verdict Sound p q k b =
-        let l = table-long after is in
-        taken refl (record { bank = l .0; software = l .1; message = lm; closing = lc }) k b is (q refl)
-    by-verdict (Found c n) p q k b =
-        let l = table-long after is in
-        refused refl (record { bank = l .0; software = l .1; message = lm; closing = lc }) (p c n refl .1) (p c n refl .0)
+    by-verdict Sound p q k b = accepted-effect (granted-full b) k (q refl)
+    by-verdict (Found c n a) p q k b = let r = p c n a refl in refused-effect c n a (r .0) (r .1)
 
   module _ (s : Session) (d : s .opening .today .yymmdd ≡ tableOf w .day) where
     abbrev t : Table
@@ -112,7 +143,7 @@ module _ (w : List ℕ) (e : isTable w ≡ true) where
         let k = left-is (esiLeaves w o m) (esiTable t o m) (esi-leaves-table w o m e real-day l) in
         by-verdict (s .opening) false (grantTo t o (m .text) (m .text)) (o .made) (m .text) (m .text) (esiLeaves w o m) _ l l (k .0)
         (firstFailing (esiChecks t (o .today .yymmdd) m))
-        (λ c n q. (esi-e-leaves w o m c n q, esi-e t (o .today .yymmdd) m c n q))
+        (λ c n a q. (esi-e-leaves w o m c n a q, esi-e t (o .today .yymmdd) m c n a q))
         (λ q. subst (λ (u : Table). Took t u (m .text)) (sym (k .1)) (esi-took t o m same-day l q))
         (grants-k t o (m .text) (m .text))
         (grants-full t o (m .text) (m .text))
@@ -125,18 +156,20 @@ module _ (w : List ℕ) (e : isTable w ≡ true) where
         let k = left-is (frameLeaves w o f) (frameTable t o f) (frame-leaves-table w o f e real-day n b) in
         by-verdict (s .opening) true (grantTo t o (f .suo .text) (f .var .text)) (o .made) (f .suo .text) (f .var .text) (frameLeaves w o f) _ n l (k .0)
         (firstFailing (frameChecks t (o .today .yymmdd) (o .kind) f))
-        (λ c n q. (frame-e-leaves w o f c n q, frame-e t (o .today .yymmdd) (o .kind) f c n q))
+        (λ c n a q. (frame-e-leaves w o f c n a q, frame-e t (o .today .yymmdd) (o .kind) f c n a q))
         (λ q. subst (λ (u : Table). Took t u (f .suo .text)) (sym (k .1)) (frame-took t o f same-day n q))
         (grants-k t o (f .suo .text) (f .var .text))
         (grants-full t o (f .suo .text) (f .var .text))
 
 -- ---- every turn
 
-pub effect : (o : Opening) (w : List ℕ) (x : Turn) → isTable w ≡ true → o .today .yymmdd ≡ tableOf w .day → Turned o w x → Effect w x
-effect o w x e d (quiet u a q) = subst (Effect w) (sym q) (effect-silent w e u)
-effect o w x e d (bare s pte code field u n q) = subst (Effect w) (sym q) (effect-bare w e s pte code field u n)
-effect o w x e d (esi s m a l q) =
+pub effect : (o : Opening) (made : ℕ) (w : List ℕ) (x : Turn) → isTable w ≡ true → o .today .yymmdd ≡ tableOf w .day
+    → Turned o made w x → Effect w x
+effect o made w x e d (quiet u a q) = subst (Effect w) (sym q) (effect-silent w e u)
+effect o made w x e d (bare s pte code field u a n q) =
+    subst (Effect w) (sym q) (effect-bare w e s pte code field u (reading-e code n))
+effect o made w x e d (esi s m a l q) =
     subst (Effect w) (sym q) (effect-esi w e s (ap (λ (p : Opening). p .today .yymmdd) (a .opening) ∙ d) m l)
-effect o w x e d (var s m a l q) =
+effect o made w x e d (var s m a l q) =
     subst (Effect w) (sym q)
     (effect-var w e s (ap (λ (p : Opening). p .today .yymmdd) (a .opening) ∙ d) m l (a .fits .suo-long) (a .fits .key-fits))

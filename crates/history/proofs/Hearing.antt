@@ -9,11 +9,11 @@ use borrow.Author.Tests.{ltb-false, eqb-true, eq-eqb}
 use lib.Dec.{eqb}
 use lib.ListN.{length}
 use Rattle.ground.specs.Choice.{pick}
-use Rattle.ground.proofs.Choices.{picks}
+use Rattle.ground.proofs.Choices.{picks, fails-false}
 use Rattle.text.proofs.Lists.{picked}
 use Rattle.table.specs.Decode.{tableOf, isTable}
 use Rattle.conditions.specs.Refusals.{lowest, noTable}
-use Rattle.conditions.proofs.Refused.{served, neither, fails-false}
+use Rattle.conditions.proofs.Refused.{served, neither}
 use Rattle.message.specs.Fields.{receiverOf, senderOf, stampTextOf}
 use Rattle.session.specs.Events.{Turn, silent, fileEnded}
 use Rattle.session.specs.Machine.{scanned, lastEnded}
@@ -24,7 +24,7 @@ use Rattle.calls.specs.Calls.{shownBy}
 use Rattle.reply.specs.Reply.{replyOf}
 use Rattle.history.specs.History.{isK}
 use Rattle.history.proofs.Sessions.{Of}
-use Rattle.history.proofs.Turns.{says, turned-file, turned-scan, turned-last}
+use Rattle.history.proofs.Turns.{Turned, says, turned-file, turned-scan, turned-last}
 use Rattle.history.proofs.Accepts.{Took}
 use Rattle.history.proofs.Effects.{Effect, unsaid, refused, taken, effect}
 use Rattle.history.proofs.Shown.{shows-none, shows-reply, says-k, says-e, says-sender, says-stamp}
@@ -52,10 +52,10 @@ hears-turn b x s n finished room h (taken g l c f i t) =
 
 -- ---- what is asked of a call that is served
 
-record Asked (s : Session) (b room : List ℕ) : Type 0 where
-  size : 317 ≤ length room
-  table : isTable b ≡ true
-  today : s .opening .today .yymmdd ≡ tableOf b .day
+pub record Asked (s : Session) (b room : List ℕ) : Type 0 where
+  pub size : 317 ≤ length room
+  pub table : isTable b ≡ true
+  pub today : s .opening .today .yymmdd ≡ tableOf b .day
 
 today-is : (s : Session) (day : ℕ) → endRefused s day ≡ false → s .opening .today .yymmdd ≡ day
 unfolding endRefused
@@ -87,6 +87,25 @@ end-asked s b room z =
       today = today-is s _ (r .0);
     }
 
+-- ---- the turn that a served call serves
+
+pub record OneTurn (s : Session) (b room : List ℕ) (d : Done) : Type 0 where
+  pub turn : Turn
+  pub later : Session
+  pub count : ℕ
+  pub finished : Bool
+  pub is : d ≡ servedBy turn later count finished room
+  pub turned : Turned (s .opening) (s .made) b turn
+
+hears-one : (s : Session) (b room : List ℕ) (d : Done) → Asked s b room → OneTurn s b room d → Hears b d
+hears-one s b room d a k =
+    subst (Hears b) (sym (k .is))
+    (hears-turn b (k .turn) (k .later) (k .count) (k .finished) room (a .size)
+    (effect (s .opening) (s .made) b (k .turn) (a .table) (a .today) (k .turned)))
+
+own : (s : Session) → Fits s → Of (s .opening) (s .made) s
+own s f = record { opening = refl; keys = refl; fits = f }
+
 -- ---- a served call, and a refused one
 
 module _ (n : ℕ) (d : Done) (s : Session) (b room : List ℕ) where
@@ -104,8 +123,8 @@ module _ (n : ℕ) (d : Done) (s : Session) (b room : List ℕ) where
   some-given k =
       picked (λ (x : Done). (x .answer .refusal ≡ 0 → ⊥) → (x .table ≡ b) × (shownBy x ≡ [])) (eqb n 0) _ _ (λ e z. absurd (z k)) (λ e z. (refl, picks {A = List (List ℕ)} _ _ _ (eq-eqb 0 0 refl)))
 
-  hears-chosen : n ≡ 0 → Hears b d → Hears b chosen
-  hears-chosen z p = subst (Hears b) (sym (picks {A = Done} _ _ _ (eq-eqb n 0 z))) p
+  turn-chosen : n ≡ 0 → OneTurn s b room d → OneTurn s b room chosen
+  turn-chosen z p = subst (OneTurn s b room) (sym (picks {A = Done} _ _ _ (eq-eqb n 0 z))) p
 
 -- ---- a read
 
@@ -119,20 +138,27 @@ module _ (s : Session) (b input room : List ℕ) where
   read-refused z =
       some-given (lowest (readingRefusals s b room)) (readServed (scanned s b input) room) s b room read-zero z
 
-  read-turn : Fits s → Asked s b room → Hears b (readServed (scanned s b input) room)
+  read-turn : Fits s → OneTurn s b room (readServed (scanned s b input) room)
   unfolding readServed
-  read-turn f a =
-      let o = s .opening in
-      let x = scanned s b input .turn in
-      hears-turn b x _ _ _ room (a .size)
-      (effect o b x (a .table) (a .today) (turned-scan o b s input (record { opening = refl; fits = f })))
+  read-turn f =
+      record {
+        turn = scanned s b input .turn;
+        later = _;
+        count = _;
+        finished = _;
+        is = refl;
+        turned = turned-scan (s .opening) (s .made) b s input (own s f);
+      }
+
+  -- a served read serves one turn
+  pub read-turns : Fits s → readDone s b input room .answer .refusal ≡ 0 → Asked s b room × OneTurn s b room (readDone s b input room)
+  unfolding readDone
+  read-turns f z =
+      let n = none-given (lowest (readingRefusals s b room)) (readServed (scanned s b input) room) s b room z in
+      (read-asked s b room n, turn-chosen _ (readServed (scanned s b input) room) s b room n (read-turn f))
 
   pub read-hears : Fits s → readDone s b input room .answer .refusal ≡ 0 → (isTable b ≡ true) × Hears b (readDone s b input room)
-  unfolding readDone
-  read-hears f z =
-      let n = none-given (lowest (readingRefusals s b room)) (readServed (scanned s b input) room) s b room z in
-      let a = read-asked s b room n in
-      (a .table, hears-chosen _ (readServed (scanned s b input) room) s b room n (read-turn f a))
+  read-hears f z = let k = read-turns f z in (k .0 .table, hears-one s b room _ (k .0) (k .1))
 
 -- ---- an end
 
@@ -146,38 +172,50 @@ end-by-zero x room =
     picked (λ (d : Done). d .answer .refusal ≡ 0) _ _ _ (λ e. picked (λ (d : Done). d .answer .refusal ≡ 0) _ _ _ (λ e. refl) (λ e. refl)) (λ e. refl)
 
 module _ (s : Session) (b room : List ℕ) where
-  module _ (a : Asked s b room) where
-    -- where the last record says nothing, the file's end is served
-    end-quiet : (u : Session) → Of (s .opening) u → Hears b (endBy (silent u b) room)
-    unfolding endServed silent pick
-    end-quiet u p =
-        hears-turn b (fileEnded u b) _ _ _ room (a .size)
-        (effect (s .opening) b (fileEnded u b) (a .table) (a .today) (turned-file (s .opening) b u p))
+  -- where the last record says nothing, the file's end is served
+  end-quiet : (u : Session) → Of (s .opening) (s .made) u → OneTurn s b room (endBy (silent u b) room)
+  unfolding endServed silent pick
+  end-quiet u p =
+      record {
+        turn = fileEnded u b;
+        later = _;
+        count = _;
+        finished = _;
+        is = refl;
+        turned = turned-file (s .opening) (s .made) b u p;
+      }
 
-    end-given : (x : Turn) → Effect b x → x .out .reply .given ≡ true → Hears b (endBy x room)
-    unfolding endServed
-    end-given x p g =
-        picked (Hears b) (x .out .reply .given) _ _
-        (λ e. picked (Hears b) _ _ _ (λ q. hears-turn b x _ _ _ room (a .size) p) (λ q. hears-turn b x _ _ _ room (a .size) p))
-        (λ e. absurd (false≢true (sym e ∙ g)))
+  end-given : (x : Turn) → Turned (s .opening) (s .made) b x → x .out .reply .given ≡ true → OneTurn s b room (endBy x room)
+  unfolding endServed
+  end-given x p g =
+      picked (OneTurn s b room) (x .out .reply .given) _ _
+      (λ e. picked (OneTurn s b room) _ _ _ (λ q. served-so x p _ _) (λ q. served-so x p _ _))
+      (λ e. absurd (false≢true (sym e ∙ g)))
+    where
+      served-so : (y : Turn) → Turned (s .opening) (s .made) b y → (u : Session) (finished : Bool)
+          → OneTurn s b room (servedBy y u 0 finished room)
+      served-so y k u finished =
+          record { turn = y; later = u; count = 0; finished = finished; is = refl; turned = k }
 
-    end-turn : Fits s → Hears b (endBy (lastEnded s b) room)
-    end-turn f =
-        let o = s .opening in
-        let x = lastEnded s b in
-        let t = turned-last o b s (record { opening = refl; fits = f }) in
-        ⊎-elim (λ q. subst (λ (y : Turn). Hears b (endBy y room)) (sym (q .2)) (end-quiet (q .0) (q .1)))
-        (λ g. end-given x (effect o b x (a .table) (a .today) t) g)
-        (says o b x t)
+  end-turn : Fits s → OneTurn s b room (endBy (lastEnded s b) room)
+  end-turn f =
+      let x = lastEnded s b in
+      let t = turned-last (s .opening) (s .made) b s (own s f) in
+      ⊎-elim (λ q. subst (λ (y : Turn). OneTurn s b room (endBy y room)) (sym (q .2)) (end-quiet (q .0) (q .1)))
+      (λ g. end-given x t g)
+      (says (s .opening) (s .made) b x t)
 
   pub end-refused : (endDone s b room .answer .refusal ≡ 0 → ⊥) → (endDone s b room .table ≡ b) × (shownBy (endDone s b room) ≡ [])
   unfolding endDone
   end-refused z =
       some-given (lowest (endingRefusals s b room)) (endBy (lastEnded s b) room) s b room (end-by-zero (lastEnded s b) room) z
 
-  pub end-hears : Fits s → endDone s b room .answer .refusal ≡ 0 → (isTable b ≡ true) × Hears b (endDone s b room)
+  -- and so does a served end
+  pub end-turns : Fits s → endDone s b room .answer .refusal ≡ 0 → Asked s b room × OneTurn s b room (endDone s b room)
   unfolding endDone
-  end-hears f z =
+  end-turns f z =
       let n = none-given (lowest (endingRefusals s b room)) (endBy (lastEnded s b) room) s b room z in
-      let a = end-asked s b room n in
-      (a .table, hears-chosen _ (endBy (lastEnded s b) room) s b room n (end-turn a f))
+      (end-asked s b room n, turn-chosen _ (endBy (lastEnded s b) room) s b room n (end-turn f))
+
+  pub end-hears : Fits s → endDone s b room .answer .refusal ≡ 0 → (isTable b ≡ true) × Hears b (endDone s b room)
+  end-hears f z = let k = end-turns f z in (k .0 .table, hears-one s b room _ (k .0) (k .1))

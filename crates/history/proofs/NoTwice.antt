@@ -21,10 +21,10 @@ use Rattle.register.proofs.Laws.{adding-table, entering-table, ordering-table, 
 use Rattle.message.specs.Fields.{receiverOf, senderOf, stampTextOf, stampOf}
 use Rattle.calls.specs.Reading.{openingLeaves}
 use Rattle.calls.specs.Calls.{Call, settingUp, adding, entering, ordering, opening, reading, ending, Typed, refusalOf, leftBy, replyBy, repliesOver}
-use Rattle.history.specs.History.{isK, agree, noneLike, allDifferent, isSettingUp, noSetUp, AllTyped, more}
+use Rattle.history.specs.History.{isK, agree, noneLike, allDifferent, isSettingUp, isHearing, noSetUp, AllTyped, more}
 use Rattle.history.proofs.Hearing.{Heard, nothing, with-e, with-k}
 use Rattle.history.proofs.Onward.{Onward, Used, used-onward, day-stays, took-onward, took-fresh, took-used, opened-onward, added-onward, entered-onward, ordered-onward}
-use Rattle.history.proofs.Stays.{isHearing, call-heard, heard-table, opening-served, opening-table, refused-stays, refused-silent, by-refusal, call-table}
+use Rattle.history.proofs.Stays.{call-heard, heard-table, opening-served, opening-table, refused-stays, refused-silent, by-refusal, call-table}
 
 -- a call from the table t to the table u shows nothing, or no K, or K with a stamp that was not used and then is
 data Gives (t u : Table) (rs : List (List ℕ)) : Type 0 where

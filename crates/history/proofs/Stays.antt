@@ -1,12 +1,13 @@
 -- What each call leaves: a refused one every byte, a served one a table; a read or an end changes nothing but with K, and then the sender's record and V alone.
 -- Assumes nothing.
 use Prim.Native.Nat.{ℕ}
-use mathlib.Core.Path.{_≡_, refl, sym, ap, _∙_}
+use mathlib.Core.Path.{_≡_, refl, ap, _∙_}
 use mathlib.Core.List.{List, [], _∷_}
 use mathlib.Core.Bool.{Bool, true, false, false≢true}
 use borrow.Author.Tests.{eqb-true, eqb-false}
 use lib.Dec.{eqb}
 use lib.ListN.{length}
+use Rattle.ground.proofs.Choices.{fails-false}
 use Rattle.calendar.specs.Dates.{realDate, earlier}
 use Rattle.table.specs.Table.{Table, placeOf, customerIn, withDay}
 use Rattle.table.specs.Decode.{tableOf, isTable}
@@ -15,14 +16,14 @@ use Rattle.table.proofs.Sound.{sound-day}
 use Rattle.table.proofs.Decode.{is-written, rewritten-is, written-is}
 use Rattle.conditions.specs.Refusals.{noTable, badDay}
 use Rattle.register.specs.Calls.{settingUpLeaves, addingLeaves, enteringLeaves, orderingLeaves}
-use Rattle.conditions.proofs.Refused.{served, neither, fails-false}
+use Rattle.conditions.proofs.Refused.{served, neither}
 use Rattle.register.proofs.Rewritten.{served-leaves}
 use Rattle.register.proofs.Laws.{Kept, refused-leaves, setting-up-table, adding-table, entering-table, ordering-table}
 use Rattle.message.specs.Fields.{receiverOf, senderOf}
 use Rattle.answers.specs.declared.Opening.{Opening}
 use Rattle.calls.specs.Reading.{openingRefusals, openingAnswer, openingLeaves}
 use Rattle.calls.specs.Calls.{Call, settingUp, adding, entering, ordering, opening, reading, ending, Typed, refusalOf, leftBy, replyBy}
-use Rattle.history.specs.History.{isK}
+use Rattle.history.specs.History.{isK, isHearing}
 use Rattle.history.proofs.Accepts.{Took}
 use Rattle.history.proofs.Hearing.{Heard, nothing, with-e, with-k, read-refused, read-hears, end-refused, end-hears}
 
@@ -84,15 +85,6 @@ by-refusal {P} b c p q = by (eqb (refusalOf b c) 0) refl
     by false e = q (eqb-false _ 0 e)
 
 -- ---- a read and an end
-
-unfoldable pub isHearing : Call → Bool
-isHearing (settingUp s holidays) = false
-isHearing (adding a) = false
-isHearing (entering e) = false
-isHearing (ordering o) = false
-isHearing (opening o) = false
-isHearing (reading s input room) = true
-isHearing (ending s room) = true
 
 pub call-heard : (b : List ℕ) (c : Call) → isHearing c ≡ true → Typed c → refusalOf b c ≡ 0
     → (isTable b ≡ true) × Heard b (leftBy b c) (replyBy b c)
@@ -161,25 +153,6 @@ heard-e b u rs (with-k r m e k w s i o) n = absurd (n r e k)
 pub hearing-e : (b : List ℕ) (c : Call) → isHearing c ≡ true → Typed c → ((r : List ℕ) → replyBy b c ≡ r ∷ [] → isK r ≡ true → ⊥) → leftBy b c ≡ b
 hearing-e b c h t n =
     by-refusal b c (λ z. heard-e b (leftBy b c) (replyBy b c) (call-heard b c h t z .1) n) (λ z. refused-stays b c z)
-
--- a call that shows a reply is a read or an end
-shows-hears : (b : List ℕ) (c : Call) (r : List ℕ) → replyBy b c ≡ r ∷ [] → isHearing c ≡ true
-unfolding isHearing replyBy
-shows-hears b (settingUp s holidays) r e = cc
-shows-hears b (adding a) r e = cc
-shows-hears b (entering n) r e = cc
-shows-hears b (ordering o) r e = cc
-shows-hears b (opening o) r e = cc
-shows-hears b (reading s input room) r e = refl
-shows-hears b (ending s room) r e = refl
-
-head-is : (r q : List ℕ) → _≡_ {A = List (List ℕ)} (r ∷ []) (q ∷ []) → r ≡ q
-head-is r q e = cc
-
--- so a reply with E leaves every byte of the table
-pub e-reply-stays : (b : List ℕ) (c : Call) (r : List ℕ) → Typed c → replyBy b c ≡ r ∷ [] → isK r ≡ false → leftBy b c ≡ b
-e-reply-stays b c r t e n =
-    hearing-e b c (shows-hears b c r e) t (λ q f k. false≢true (sym n ∙ ap isK (head-is r q (sym e ∙ f)) ∙ k))
 
 -- ---- every table that a served call leaves is a table
 

@@ -40,6 +40,20 @@ isSettingUp (opening o) = false
 isSettingUp (reading s input room) = false
 isSettingUp (ending s room) = false
 
+-- a read or an end
+unfoldable pub isHearing : Call → Bool
+isHearing (settingUp s holidays) = false
+isHearing (adding a) = false
+isHearing (entering e) = false
+isHearing (ordering o) = false
+isHearing (opening o) = false
+isHearing (reading s input room) = true
+isHearing (ending s room) = true
+
+-- the codes of the bare replies that the reading rules give without judging a message
+abbrev pub readingCodes : List ℕ
+readingCodes = 1010 ∷ 1011 ∷ 1023 ∷ 1024 ∷ 1032 ∷ 1034 ∷ []
+
 -- no set-up of the sequence is served
 unfoldable pub noSetUp : List ℕ → List Call → Bool
 noSetUp b [] = true

@@ -149,7 +149,7 @@ fn add_words(table: &[u8]) {
     let length = if os::arg_count() < 14 {
         conditions::Length::LeftOut
     } else {
-        conditions::Length::Given(days)
+        conditions::Length::Given(calendar::CalendarDays(days))
     };
     let a = register::Adding {
         today,

@@ -1,8 +1,9 @@
 -- Where the fields stand: each begins where those before it end, which is computed for all of them, and what is read there.
 -- Assumes nothing.
-use mathlib.Core.Path.{_≡_, ap, _∙_}
+use mathlib.Core.Path.{_≡_, sym, ap, _∙_}
+use mathlib.Core.Logic.{⊎-elim}
 use mathlib.Core.List.{List, [], _∷_, _++_, map, append-nil}
-use Prim.Native.Nat.{ℕ, zero, suc, _+_, _-_, _^_, _≤_, _<_, zero-le}
+use Prim.Native.Nat.{ℕ, zero, suc, _+_, _-_, _^_, _≤_, _<_, zero-le, min}
 use native.Mathlib.Nat.{not-suc-le-zero, le-of-suc-le-suc, le-trans, lt-of-lt-of-le, pow-le-pow-right}
 use native.Mathlib.Numerals.{add-one}
 use native.Mathlib.Omega.{arith}
@@ -16,6 +17,7 @@ use Rattle.ground.proofs.Table as table
 use Rattle.text.specs.Numbers.{decimal, hex}
 use Rattle.text.proofs.Lists.{passed, each}
 use Rattle.text.proofs.Laws.{decimal-lt}
+use Rattle.calendar.proofs.Walk.{below}
 use Rattle.message.specs.Layout.{Field, field, fields, total, offsetIn, widthIn, fieldText}
 
 -- a table that agrees with a rule at each place
@@ -44,12 +46,30 @@ rises (f ∷ l) zero j h = zero-le
 rises (f ∷ l) (suc i) zero h = absurd (not-suc-le-zero h)
 rises (f ∷ l) (suc i) (suc j) h = omega (arith, rises l i j (le-of-suc-le-suc h))
 
-pub ordered : (i j : ℕ) {a e : ℕ} → i ≤ j → a ≡ total (take i fields) → e ≡ total (take j fields) → a ≤ e
-ordered i j h p q = rw (p, q) (rises fields i j h)
+pub ordered : (i j : ℕ) → i ≤ j → total (take i fields) ≤ total (take j fields)
+ordered = rises fields
 
-pub within : (j : ℕ) {e : ℕ} → j ≤ 22 → e ≡ total (take j fields) → e ≤ 161
-unfolding total
-within j h q = rw q (rises fields j 22 h)
+-- what lies past the end of a list is nothing
+module _ (first last : ℕ) (m : List ℕ) (h : first ≤ last) {x y a e : ℕ} (p : x ≡ first) (q : y ≡ last)
+    (s : a ≡ min x (length m)) (t : e ≡ min y (length m)) where
+  pub cut-ordered : a ≤ e
+  cut-ordered = omega arith
+
+  pub cut-part : take (e - a) (drop a m) ≡ part first (last - first) m
+  unfolding part
+  cut-part =
+      ⊎-elim
+      (λ l.
+      let b : a ≡ first = omega arith in
+      ⊎-elim (λ k. let d : e ≡ last = omega arith in rw (b, d))
+      (λ k.
+      let n : length (drop first m) ≡ length m - first = length-drop first m in
+      rw b (take-all (e - first) (drop first m) (omega arith) ∙ sym (take-all (last - first) (drop first m) (omega arith))))
+      (below last (length m)))
+      (λ l.
+      let z : e - a ≡ 0 = omega arith in
+      rw (z, drop-of-length-le m {i = first} (omega arith), take-nil {A = ℕ} (last - first)))
+      (below first (length m))
 
 -- the two rules of a field's place, computed
 begins : (i : ℕ) → i < 22 → offsetIn (numberAt i) fields ≡ total (take i fields)

@@ -2,24 +2,30 @@
 -- Assumes nothing.
 use mathlib.Core.Path.{_≡_, refl, sym, ap, ap₂, _∙_}
 use mathlib.Core.Bool.{Bool, true, false, not}
-use mathlib.Core.List.{List, [], _∷_, map}
+use mathlib.Core.List.{List, [], _∷_, _++_, map}
 use Prim.Native.Nat.{ℕ, _+_, _-_, _≤_, _<_}
 use native.Mathlib.Numerals.{add-one}
 use native.Mathlib.Omega.{arith}
 use borrow.Author.Tests.{ne-eqb}
-use lib.Dec.{lit≤}
+use lib.Dec.{eqb, lit≤}
 use lib.ListN.{length, getD, take, drop, drop-of-length-le}
 use lib.Seq.{drop-cons, getD-take}
 use Rattle.ground.specs.Choice.{both, either, fails, pick}
 use Rattle.ground.specs.Lists.{member, part}
 use Rattle.ground.proofs.Choices.{join, either-left, either-decides, picks, skips}
 use Rattle.message.specs.Layout.{Field, field, fields, total, fieldText, layout}
-use Rattle.message.specs.Rules.{Rule, only, obeys, firstBroken, orElse, firstFault, faultOf, formatHolds, valueHolds}
+use Rattle.message.specs.Order.{firstFailing}
+use Rattle.message.specs.Rules.{Rule, only, formOf, obeys, formatHolds, valueHolds, isShort, formatFails, valueFails, eachField, formChecks}
+use Rattle.message.specs.Passing.{passesIn, lowestBroken}
 use Rattle.message.specs.declared.Kind.{Kind}
 use Rattle.message.specs.declared.Kind.the-variants.{Esi, Suo, Var}
+use Rattle.message.specs.declared.Extent.{Extent}
+use Rattle.message.specs.declared.Extent.the-variants.{Whole, TooShort, LengthNotDigits, OtherLength, CutShort}
+use Rattle.message.specs.declared.About.{About}
 use Rattle.message.specs.declared.Fault.{Fault}
 use Rattle.message.specs.declared.Fault.the-variants.{Sound, Found}
 use Rattle.message.proofs.Places.{numberAt, placed}
+use Rattle.message.proofs.Order.{first-sound, first-found}
 
 both-true : (t : Bool) → both t true ≡ t
 unfolding both
@@ -65,26 +71,45 @@ module _ (l j : List ℕ) (e : l ≡ j) (n : ℕ) (t : Bool) where
 
 -- ---- rules
 
-module _ (rules : Kind → List Rule) (k j : Kind) (n : ℕ) (text : List ℕ) (e : k ≡ j) where
-  -- what the rule of a field asks, where one rule names it
-  pub asked : (v : ℕ) (t : Bool) → n ≡ v → obeys (rules j) v text ≡ both t true → t ≡ obeys (rules k) n text
-  asked v t p q =
+module _ (rules : Kind → List Rule) (k j : Kind) (n : ℕ) (m text : List ℕ) (q : fieldText n m ≡ text) (e : k ≡ j) where
+  -- what the rule of a field asks of its characters, where one rule names it
+  pub asked : (v : ℕ) (f : List ℕ → Bool) → n ≡ v → obeys (rules j) v m ≡ both (f (fieldText v m)) true → f text ≡ obeys (rules k) n m
+  asked v f p a =
       sym
-      (ap (λ (x : Kind). obeys (rules x) n text) e
-      ∙ ap (λ (x : ℕ). obeys (rules j) x text) p
-      ∙ q
-      ∙ both-true t)
+      (ap (λ (x : Kind). obeys (rules x) n m) e
+      ∙ ap (λ (x : ℕ). obeys (rules j) x m) p
+      ∙ a
+      ∙ both-true (f (fieldText v m))
+      ∙ ap (λ (x : ℕ). f (fieldText x m)) (sym p)
+      ∙ ap f q)
 
-unasked-of : (rs : List Rule) (n : ℕ) (text : List ℕ) → Apart (map (λ r. r .number) rs) n → obeys rs n text ≡ true
+unasked-of : (rs : List Rule) (n : ℕ) (m : List ℕ) → Apart (map (λ r. r .number) rs) n → obeys rs n m ≡ true
 unfolding obeys fails
-unasked-of [] n text h = refl
-unasked-of (r ∷ rs) n text h =
-    join _ _ (either-left _ _ (ap fails (ne-eqb (r .number) n (λ p. h .0 (sym p))))) (unasked-of rs n text (h .1))
+unasked-of [] n m h = refl
+unasked-of (r ∷ rs) n m h =
+    join _ _ (either-left _ _ (ap fails (ne-eqb (r .number) n (λ p. h .0 (sym p))))) (unasked-of rs n m (h .1))
 
 -- no rule names the field
-pub unasked : (rules : Kind → List Rule) (k j : Kind) (n : ℕ) (text : List ℕ) → k ≡ j → Apart (map (λ r. r .number) (rules j)) n → true ≡ obeys (rules k) n text
-unasked rules k j n text e h =
-    sym (ap (λ (x : Kind). obeys (rules x) n text) e ∙ unasked-of (rules j) n text h)
+pub unasked : (rules : Kind → List Rule) (k j : Kind) (n : ℕ) (m : List ℕ) → k ≡ j → Apart (map (λ r. r .number) (rules j)) n → true ≡ obeys (rules k) n m
+unasked rules k j n m e h =
+    sym (ap (λ (x : Kind). obeys (rules x) n m) e ∙ unasked-of (rules j) n m h)
+
+both-assoc : (a b c : Bool) → both (both a b) c ≡ both a (both b c)
+unfolding both
+both-assoc true b c = refl
+both-assoc false b c = refl
+
+true-both : (t : Bool) → t ≡ both true t
+unfolding both
+true-both t = refl
+
+-- the rules of two lists
+pub obeys-append : (a b : List Rule) (n : ℕ) (m : List ℕ) → obeys (a ++ b) n m ≡ both (obeys a n m) (obeys b n m)
+unfolding obeys
+obeys-append [] b n m = true-both (obeys b n m)
+obeys-append (r ∷ a) b n m =
+    let x : Bool = only (eqb (r .number) n) (r .holds m) in
+    ap (both x) (obeys-append a b n m) ∙ sym (both-assoc x (obeys a n m) (obeys b n m))
 
 -- ---- the first field that does not pass
 
@@ -100,62 +125,104 @@ same-field Esi i h = getD-take 22 fields i (field 0 "" 0) h
 same-field Suo i h = getD-take 19 fields i (field 0 "" 0) h
 same-field Var i h = getD-take 22 fields i (field 0 "" 0) h
 
-module _ (holds : ℕ → List ℕ → Bool) (code : ℕ) (m : List ℕ) where
-  broken-cons : (f : Field) (fs : List Field) → firstBroken holds code (f ∷ fs) m
-      ≡ pick (holds (f .number) (fieldText (f .number) m)) (firstBroken holds code fs m) (Found code (f .number))
-  unfolding firstBroken
+module _ (passes : ℕ → Bool) (code : ℕ) (about : About) where
+  broken-cons : (f : Field) (fs : List Field) → lowestBroken code about passes (f ∷ fs)
+      ≡ pick (fails (passes (f .number))) (Found code (f .number) about) (lowestBroken code about passes fs)
+  unfolding eachField firstFailing
   broken-cons f fs = refl
 
-  next : (k : Kind) (i : ℕ) → i < length (layout k) → firstBroken holds code (drop i (layout k)) m
-      ≡ pick (holds (numberAt i) (fieldText (numberAt i) m)) (firstBroken holds code (drop (i + 1) (layout k)) m) (Found code (numberAt i))
+  next : (k : Kind) (i : ℕ) → i < length (layout k) → lowestBroken code about passes (drop i (layout k))
+      ≡ pick (fails (passes (numberAt i))) (Found code (numberAt i) about) (lowestBroken code about passes (drop (i + 1) (layout k)))
   next k i h =
       rw (add-one i, drop-cons (layout k) i (field 0 "" 0) h, same-field k i h)
       (broken-cons (getD fields i (field 0 "" 0)) _)
 
   -- the loop over the fields: the first i of them pass
   module _ (k : Kind) (i count : ℕ) (e : count ≡ length (layout k))
-      (rest : firstBroken holds code (layout k) m ≡ firstBroken holds code (drop i (layout k)) m) where
-    -- n, s and r are the number, the characters and the test of the field at i
-    module _ (h : i < count) (n : ℕ) (s : List ℕ) (r : Bool) (p : n ≡ numberAt i)
-        (q : s ≡ part (total (take i fields)) (total (take (i + 1) fields) - total (take i fields)) m) (t : r ≡ holds n s) where
-      test : (b : Bool) → r ≡ b → holds (numberAt i) (fieldText (numberAt i) m) ≡ b
-      test b d =
-          let l : i < 22 = omega (arith, few k) in
-          ap₂ holds (sym p) (sym (q ∙ placed i m l)) ∙ sym t ∙ d
+      (rest : lowestBroken code about passes (layout k) ≡ lowestBroken code about passes (drop i (layout k))) where
+    -- n and r are the number and the test of the field at i
+    module _ (h : i < count) (n : ℕ) (r : Bool) (p : n ≡ numberAt i) (t : r ≡ passes n) where
+      test : (b : Bool) → r ≡ b → fails (passes (numberAt i)) ≡ fails b
+      test b d = ap (λ (x : ℕ). fails (passes x)) (sym p) ∙ ap fails (sym t ∙ d)
 
       within-layout : i < length (layout k)
       within-layout = rw e at h
 
-      pub stops : r ≡ false → Found code n ≡ firstBroken holds code (layout k) m
-      stops d = ap (Found code) p ∙ sym (rest ∙ next k i within-layout ∙ skips _ _ _ (test false d))
+      pub stops : r ≡ false → Found code n about ≡ lowestBroken code about passes (layout k)
+      unfolding fails
+      stops d =
+          ap (λ (x : ℕ). Found code x about) p ∙ sym (rest ∙ next k i within-layout ∙ picks _ _ _ (test false d))
 
-      pub goes-on : r ≡ true → firstBroken holds code (layout k) m ≡ firstBroken holds code (drop (i + 1) (layout k)) m
-      goes-on d = rest ∙ next k i within-layout ∙ picks _ _ _ (test true d)
+      pub goes-on : r ≡ true → lowestBroken code about passes (layout k) ≡ lowestBroken code about passes (drop (i + 1) (layout k))
+      unfolding fails
+      goes-on d = rest ∙ next k i within-layout ∙ skips _ _ _ (test true d)
 
-    pub ends : count ≤ i → Sound ≡ firstBroken holds code (layout k) m
-    unfolding firstBroken
+    pub ends : count ≤ i → Sound ≡ lowestBroken code about passes (layout k)
+    unfolding eachField firstFailing
     ends h =
-        sym (rest ∙ ap (λ (l : List Field). firstBroken holds code l m) (drop-of-length-le (layout k) (rw e at h)))
+        sym (rest ∙ ap (λ (l : List Field). lowestBroken code about passes l) (drop-of-length-le (layout k) (rw e at h)))
+
+-- the characters of the field at a place are those that a span lends
+pub lent-field : (i : ℕ) (n : ℕ) (s m : List ℕ) → i < 22 → n ≡ numberAt i
+    → s ≡ part (total (take i fields)) (total (take (i + 1) fields) - total (take i fields)) m → fieldText n m ≡ s
+lent-field i n s m h p q = ap (λ (x : ℕ). fieldText x m) p ∙ sym (q ∙ placed i m h)
 
 -- ---- a message that is collected whole
 
-module _ (k : Kind) (alone : ℕ) (over : Bool) (m : List ℕ) (first : Fault) (a : alone ≡ 1 → ⊥) (b : alone ≡ 2 → ⊥) (c : alone ≡ 3 → ⊥)
-    (e : first ≡ firstBroken (formatHolds k over) 1010 (layout k) m) where
-  collected : (f : Fault) → first ≡ f → orElse f (firstBroken (valueHolds k) 1011 (layout k) m) ≡ faultOf k alone over m
-  unfolding faultOf firstFault
-  collected f d =
-      sym
-      (skips _ _ _ (ne-eqb alone 1 a)
-      ∙ skips _ _ _ (ne-eqb alone 2 b)
-      ∙ skips _ _ _ (ne-eqb alone 3 c)
-      ∙ ap (λ (g : Fault). orElse g (firstBroken (valueHolds k) 1011 (layout k) m)) (sym e ∙ d))
+module _ (k : Kind) (about : About) (over : Bool) (m : List ℕ) where
+  format-checks : lowestBroken 1010 about (passesIn false (formOf k) over m) (layout k)
+      ≡ firstFailing (eachField 1010 about (formatFails (formOf k) Whole over m) (layout k))
+  unfolding passesIn formatFails pick
+  format-checks = refl
 
-  -- a fault of the format comes first
-  pub by-format : (code number : ℕ) → first ≡ Found code number → Found code number ≡ faultOf k alone over m
-  unfolding orElse
-  by-format code number d = collected (Found code number) d
+  value-checks : lowestBroken 1011 about (passesIn true (formOf k) over m) (layout k)
+      ≡ firstFailing (eachField 1011 about (valueFails (formOf k) Whole m) (layout k))
+  unfolding passesIn valueFails pick
+  value-checks = refl
 
-  -- where there is none, the values decide
-  pub by-values : (second : Fault) → first ≡ Sound → second ≡ firstBroken (valueHolds k) 1011 (layout k) m → second ≡ faultOf k alone over m
-  unfolding orElse
-  by-values second d q = q ∙ collected Sound d
+  whole : firstFailing (formChecks (formOf k) about (record { extent = Whole; blank = over; text = m }))
+      ≡ firstFailing
+      (eachField 1010 about (formatFails (formOf k) Whole over m) (layout k)
+      ++ eachField 1011 about (valueFails (formOf k) Whole m) (layout k))
+  unfolding formChecks isShort firstFailing pick
+  whole = refl
+
+  module _ (first : Fault) (e : first ≡ lowestBroken 1010 about (passesIn false (formOf k) over m) (layout k)) where
+    -- a fault of the format comes first
+    pub by-format : (code field : ℕ) (of : About) → first ≡ Found code field of
+        → Found code field of ≡ firstFailing (formChecks (formOf k) about (record { extent = Whole; blank = over; text = m }))
+    by-format code field of d =
+        sym (whole ∙ first-found _ _ code field of (sym format-checks ∙ sym e ∙ d))
+
+    -- where there is none, the values decide
+    pub by-values : (second : Fault) → first ≡ Sound
+        → second ≡ lowestBroken 1011 about (passesIn true (formOf k) over m) (layout k)
+        → second ≡ firstFailing (formChecks (formOf k) about (record { extent = Whole; blank = over; text = m }))
+    by-values second d q =
+        q ∙ value-checks ∙ sym (whole ∙ first-sound _ _ (sym format-checks ∙ sym e ∙ d))
+
+-- ---- a message of one record alone, or cut short
+
+module _ (about : About) (over : Bool) (m : List ℕ) where
+  abbrev formed : Kind → Extent → Fault
+  formed k extent = firstFailing (formChecks (formOf k) about (record { extent = extent; blank = over; text = m }))
+
+  pub too-short : (k : Kind) → Found 1032 0 about ≡ formed k TooShort
+  unfolding formChecks isShort firstFailing pick
+  too-short k = refl
+
+  pub cut-short : (k : Kind) → Found 1032 0 about ≡ formed k CutShort
+  unfolding formChecks isShort firstFailing pick
+  cut-short k = refl
+
+  pub not-digits : (k : Kind) → Found 1010 20 about ≡ formed k LengthNotDigits
+  unfolding formChecks isShort formatFails eachField layout firstFailing pick
+  not-digits Esi = refl
+  not-digits Suo = refl
+  not-digits Var = refl
+
+  pub other-length : (k : Kind) → Found 1011 20 about ≡ formed k OtherLength
+  unfolding formChecks isShort formatFails valueFails eachField layout firstFailing pick
+  other-length Esi = refl
+  other-length Suo = refl
+  other-length Var = refl

@@ -1,4 +1,6 @@
 -- What the contracts of `message` cite.
 pub mod Layout
+pub mod Order
 pub mod Rules
+pub mod Passing
 pub mod Fields

@@ -1,22 +1,36 @@
--- What makes a customer's message well formed, and which fault comes first (document 01, 'Message fields' and 'Reading the file').
+-- What makes a message well formed: each rule of each field is one check, in the order in which faults are told (document 01, 'Message fields',
+-- 'Reading the file', 'Order of checks').
 -- Assumes nothing.
 use Prim.Native.Nat.{ℕ, _/_}
 use mathlib.Core.Bool.{Bool, true, false}
-use mathlib.Core.List.{List, [], _∷_}
+use mathlib.Core.List.{List, [], _∷_, _++_}
 use lib.Dec.{eqb, leb}
-use Rattle.ground.specs.Choice.{both, either, fails, pick}
+use Rattle.ground.specs.Choice.{both, either, fails}
 use Rattle.ground.specs.Lists.{all, member, same}
 use Rattle.text.specs.Characters.{digit, fieldCharacter, hexDigit, allBlank}
 use Rattle.text.specs.Numbers.{decimal}
 use Rattle.text.specs.Letters.{letters}
 use Rattle.calendar.specs.Dates.{realDate, realTime}
 use Rattle.message.specs.Layout.{Field, layout, layoutLength, fieldText}
+use Rattle.message.specs.Order.{Check}
 use Rattle.message.specs.declared.Kind.{Kind}
 use Rattle.message.specs.declared.Kind.the-variants.{Esi, Suo, Var}
-use Rattle.message.specs.declared.Fault.{Fault}
-use Rattle.message.specs.declared.Fault.the-variants.{Sound, Found}
+use Rattle.message.specs.declared.Extent.{Extent}
+use Rattle.message.specs.declared.Extent.the-variants.{Whole, TooShort, LengthNotDigits, OtherLength, CutShort}
+use Rattle.message.specs.declared.About.{About}
+use Rattle.message.specs.declared.Collected.{Collected}
 
--- ---- format (1010)
+-- ---- a kind's form: its fields in their order, those that are hex digits, and the rules on values
+
+-- a rule: the field that it is about, and what the message must be
+pub record Rule : Type 0 where
+  pub number : ℕ
+  pub holds : List ℕ → Bool
+
+pub record Form : Type 0 where
+  pub fields : List Field
+  pub hexes : List ℕ
+  pub rules : List Rule
 
 -- fields 15 to 17, where used, are sixteen of 0-9 A-F: 15 in SUO and VAR, 16 in VAR, 17 in ESI and VAR
 unfoldable pub hexFields : Kind → List ℕ
@@ -24,27 +38,9 @@ hexFields Esi = 170 ∷ []
 hexFields Suo = 150 ∷ []
 hexFields Var = 150 ∷ 160 ∷ 170 ∷ []
 
--- a test that is made only of some fields
-abbrev pub only : Bool → Bool → Bool
-only asked holds = either (fails asked) holds
-
--- fields 1 to 16 use only the field characters; fields 2, 3, 5, 10, 11 and 12 are digits; hex digits where used; characters over in a
--- message's last record must be blank (field 2)
-unfoldable pub formatHolds : Kind → Bool → ℕ → List ℕ → Bool
-formatHolds kind blankOver number text =
-    both (only (leb (number / 10) 16) (all fieldCharacter text))
-    (both (only (member (number / 10) (2 ∷ 3 ∷ 5 ∷ 10 ∷ 11 ∷ 12 ∷ [])) (all digit text))
-    (both (only (member number (hexFields kind)) (all hexDigit text)) (only (eqb number 20) blankOver)))
-
--- ---- value (1011)
-
--- a field's number, and what its characters must be
-pub record Rule : Type 0 where
-  pub number : ℕ
-  pub holds : List ℕ → Bool
-
+-- a rule on the characters of its own field
 abbrev pub rule : ℕ → (List ℕ → Bool) → Rule
-rule n f = record { number = n; holds = f }
+rule n f = record { number = n; holds = λ m. f (fieldText n m) }
 
 -- one of some texts
 unfoldable pub oneOf : List (List ℕ) → List ℕ → Bool
@@ -82,36 +78,67 @@ ownRules Var =
     rule 130 (λ text. oneOf (letters "S" ∷ letters "A" ∷ []) text) ∷
     rule 180 (λ text. oneOf (letters "0" ∷ letters "1" ∷ letters "2" ∷ []) text) ∷ []
 
--- what the rules ask of the field with that number; a field without a rule may hold anything
+abbrev pub formOf : Kind → Form
+formOf kind = record { fields = layout kind; hexes = hexFields kind; rules = commonRules kind ++ ownRules kind }
+
+-- ---- format (1010)
+
+-- a test that is made only of some fields
+abbrev pub only : Bool → Bool → Bool
+only asked holds = either (fails asked) holds
+
+-- field n with these characters: fields 1 to 16 use only the field characters; fields 2, 3, 5, 10, 11 and 12 are digits; hex digits where
+-- used; characters over in a message's last record must be blank (field 2)
+unfoldable pub formatHolds : Form → Bool → ℕ → List ℕ → Bool
+formatHolds form blankOver n text =
+    both (only (leb (n / 10) 16) (all fieldCharacter text))
+    (both (only (member (n / 10) (2 ∷ 3 ∷ 5 ∷ 10 ∷ 11 ∷ 12 ∷ [])) (all digit text))
+    (both (only (member n (form .hexes)) (all hexDigit text)) (only (eqb n 20) blankOver)))
+
+-- ---- value (1011)
+
+-- what some rules ask of field n in a message; a field without a rule may hold anything
 unfoldable pub obeys : List Rule → ℕ → List ℕ → Bool
-obeys [] number text = true
-obeys (r ∷ rs) number text = both (only (eqb (r .number) number) (r .holds text)) (obeys rs number text)
+obeys [] n m = true
+obeys (r ∷ rs) n m = both (only (eqb (r .number) n) (r .holds m)) (obeys rs n m)
 
-unfoldable pub valueHolds : Kind → ℕ → List ℕ → Bool
-valueHolds kind number text = both (obeys (commonRules kind) number text) (obeys (ownRules kind) number text)
+abbrev pub valueHolds : Form → ℕ → List ℕ → Bool
+valueHolds form n m = obeys (form .rules) n m
 
--- ---- which fault comes first
+-- ---- the checks of form
 
--- the lowest field of the list whose characters do not pass
-unfoldable pub firstBroken : (ℕ → List ℕ → Bool) → ℕ → List Field → List ℕ → Fault
-firstBroken holds code [] m = Sound
-firstBroken holds code (f ∷ fs) m =
-    pick (holds (f .number) (fieldText (f .number) m)) (firstBroken holds code fs m) (Found code (f .number))
+-- shorter than the layout (1032): the first record under 11 characters, or cut short by the file's end
+unfoldable pub isShort : Extent → Bool
+isShort Whole = false
+isShort TooShort = true
+isShort LengthNotDigits = false
+isShort OtherLength = false
+isShort CutShort = true
 
--- the second fault where there is no first
-unfoldable pub orElse : Fault → Fault → Fault
-orElse Sound other = other
-orElse (Found code number) other = Found code number
+-- a message that is one record alone has the fault that made it so, and no other is looked for
+unfoldable pub formatFails : Form → Extent → Bool → List ℕ → ℕ → Bool
+formatFails form Whole blankOver m n = fails (formatHolds form blankOver n (fieldText n m))
+formatFails form TooShort blankOver m n = false
+formatFails form LengthNotDigits blankOver m n = eqb n 20
+formatFails form OtherLength blankOver m n = false
+formatFails form CutShort blankOver m n = false
 
--- 1010 lowest field first; then 1011 likewise
-unfoldable pub firstFault : Kind → Bool → List ℕ → Fault
-firstFault kind blankOver m =
-    orElse (firstBroken (formatHolds kind blankOver) 1010 (layout kind) m) (firstBroken (valueHolds kind) 1011 (layout kind) m)
+unfoldable pub valueFails : Form → Extent → List ℕ → ℕ → Bool
+valueFails form Whole m n = fails (valueHolds form n m)
+valueFails form TooShort m n = false
+valueFails form LengthNotDigits m n = false
+valueFails form OtherLength m n = eqb n 20
+valueFails form CutShort m n = false
 
--- a message that is one record alone: 1 shorter than its layout (1032), 2 a length that isn't digits, 3 a length that isn't the layout's;
--- no other fault is looked for then. 0 is a message collected whole
-unfoldable pub faultOf : Kind → ℕ → Bool → List ℕ → Fault
-faultOf kind alone blankOver m =
-    pick (eqb alone 1) (Found 1032 0)
-    (pick (eqb alone 2) (Found 1010 20)
-    (pick (eqb alone 3) (Found 1011 20) (firstFault kind blankOver m)))
+-- one check for each of some fields, in their order
+unfoldable pub eachField : ℕ → About → (ℕ → Bool) → List Field → List Check
+eachField code about broken [] = []
+eachField code about broken (f ∷ fs) =
+    record { code = code; field = f .number; about = about; failed = broken (f .number) } ∷ eachField code about broken fs
+
+-- 1032; 1010 lowest field first; 1011 likewise
+unfoldable pub formChecks : Form → About → Collected → List Check
+formChecks form about m =
+    (record { code = 1032; field = 0; about = about; failed = isShort (m .extent) } ∷ []) ++
+    eachField 1010 about (formatFails form (m .extent) (m .blank) (m .text)) (form .fields) ++
+    eachField 1011 about (valueFails form (m .extent) (m .text)) (form .fields)

@@ -1,15 +1,17 @@
 // The customer's messages ESI, SUO and VAR: their layout, their faults, and what their fields say.
 ghost use mathlib.Core.Path.{_≡_};
-ghost use mathlib.Core.List.{[], _∷_};
-ghost use Prim.Native.Nat.{_-_, _<_, _≤_};
+ghost use mathlib.Core.List.{List, [], _∷_};
+ghost use Prim.Native.Nat.{ℕ, _-_, _<_, _≤_, min};
 ghost use lib.ListN.{length, take, getD};
-ghost use Rattle.ground.specs.Choice.{pick};
 ghost use Rattle.ground.specs.Lists.{all, member, part};
 ghost use Rattle.text.specs.Characters.{digit, hexDigit};
 ghost use Rattle.text.specs.Letters.{letters};
-ghost use Rattle.message.specs.Layout.{field, fields, total, widthIn, layout, layoutLength};
-ghost use Rattle.message.specs.Rules.{hexFields, only, formatHolds, oneOf, methods, commonRules, ownRules, obeys, valueHolds, firstBroken, faultOf};
-ghost use Rattle.message.specs.Fields.{receiverOf, senderOf, stampTextOf, stampOf, dateOfStamp, versionOf, methodOf, transportGenerationOf, workingGenerationOf, onceFieldOf, digestFieldOf, checksumFieldOf, requestOf};
+ghost use Rattle.message.specs.Layout.{field, fields, total, widthIn, fieldText, layout, layoutLength};
+ghost use Rattle.message.specs.Order.{firstFailing};
+ghost use Rattle.message.specs.declared.Extent.the-variants.{Whole};
+ghost use Rattle.message.specs.Rules.{hexFields, only, oneOf, methods, commonRules, ownRules, formOf, formatHolds, obeys, valueHolds, formChecks};
+ghost use Rattle.message.specs.Passing.{passesIn, lowestBroken};
+ghost use Rattle.message.specs.Fields.{receiverOf, senderOf, stampOf, dateOfStamp, versionOf, methodOf, transportGenerationOf, workingGenerationOf, onceFieldOf, digestFieldOf, checksumFieldOf, requestOf};
 
 // The messages that customers send.
 pub enum Kind {
@@ -18,10 +20,32 @@ pub enum Kind {
     Var,
 }
 
-// No fault, or the code and the field (ten times its number, and its part; 0 where none is named).
+// What was collected of a message: the whole, or why it is one record alone or has no end.
+pub enum Extent {
+    Whole,
+    TooShort,
+    LengthNotDigits,
+    OtherLength,
+    CutShort,
+}
+
+// Which message a check is about: the one that is answered (an ESI, a frame's SUO), or the one that closes a frame (its VAR).
+pub enum About {
+    Answered,
+    Closing,
+}
+
+// A message as it was collected: how much of it, whether the characters over in its last record were blank, and its characters.
+pub struct Collected {
+    pub extent: Extent,
+    pub blank: bool,
+    pub text: [u8; 161],
+}
+
+// No fault, or the code, the field (ten times its number, and its part; 0 where none is named) and the message that it is of.
 pub enum Fault {
     Sound,
-    Found { code: u32, field: u32 },
+    Found { code: u32, field: u32, about: About },
 }
 
 // The fields' numbers, in their order.
@@ -112,13 +136,19 @@ fn start_of(i: usize) -> usize
     STARTS[i]
 }
 
-// The characters of the fields from one place of the order to before another.
+fn least(a: usize, b: usize) -> usize
+    ensures { λ r. ⌜ r ≡ min a b ⌝ }
+{
+    if a <= b { a } else { b }
+}
+
+// The characters of the fields from one place of the order to before another, as far as the message goes.
 fn span(from: usize, to: usize, m: &[u8]) -> &[u8]
-    requires { ⌜ (from ≤ to) × (to ≤ 22) × (length (now m) ≡ 161) ⌝ }
+    requires { ⌜ (from ≤ to) × (to ≤ 22) ⌝ }
     ensures { λ r. ⌜ now r ≡ part (total (take from fields)) (total (take to fields) - total (take from fields)) (now (m .entry)) ⌝ }
 {
-    let a = start_of(from);
-    let e = start_of(to);
+    let a = least(start_of(from), m.len());
+    let e = least(start_of(to), m.len());
     &m[a..e]
 }
 
@@ -161,7 +191,7 @@ fn hex_holds(k: Kind, number: u32, text: &[u8]) -> bool
 }
 
 fn format_holds(k: Kind, blank_over: bool, number: u32, text: &[u8]) -> bool
-    ensures { λ r. ⌜ r ≡ formatHolds k «blank_over» number (now (text .entry)) ⌝ }
+    ensures { λ r. ⌜ r ≡ formatHolds (formOf k) «blank_over» number (now (text .entry)) ⌝ }
 {
     if !only_if(number / 10 <= 16, text::all_field_characters(text)) {
         return false;
@@ -207,7 +237,7 @@ fn request_holds(text: &[u8]) -> bool
 // The rules that every kind has.
 fn common_holds(k: Kind, number: u32, text: &[u8]) -> bool
     requires { ⌜ length (now text) ≤ widthIn number fields ⌝ }
-    ensures { λ r. ⌜ r ≡ obeys (commonRules k) number (now (text .entry)) ⌝ }
+    ensures { λ r. ⌜ ((m : List ℕ) → fieldText number m ≡ now (text .entry) → r ≡ obeys (commonRules k) number m) ⌝ }
 {
     match number {
         20 => text::number(text) == length_of(k) as u64,
@@ -229,7 +259,7 @@ fn common_holds(k: Kind, number: u32, text: &[u8]) -> bool
 
 // The rules of each kind.
 fn own_holds(k: Kind, number: u32, text: &[u8]) -> bool
-    ensures { λ r. ⌜ r ≡ obeys (ownRules k) number (now (text .entry)) ⌝ }
+    ensures { λ r. ⌜ ((m : List ℕ) → fieldText number m ≡ now (text .entry) → r ≡ obeys (ownRules k) number m) ⌝ }
 {
     match k {
         Kind::Esi => match number {
@@ -251,7 +281,7 @@ fn own_holds(k: Kind, number: u32, text: &[u8]) -> bool
 
 fn value_holds(k: Kind, number: u32, text: &[u8]) -> bool
     requires { ⌜ length (now text) ≤ widthIn number fields ⌝ }
-    ensures { λ r. ⌜ r ≡ valueHolds k number (now (text .entry)) ⌝ }
+    ensures { λ r. ⌜ ((m : List ℕ) → fieldText number m ≡ now (text .entry) → r ≡ valueHolds (formOf k) number m) ⌝ }
 {
     if !common_holds(k, number, text) {
         return false;
@@ -262,7 +292,7 @@ fn value_holds(k: Kind, number: u32, text: &[u8]) -> bool
 // The test of the values or of the format.
 fn passes(values: bool, k: Kind, blank_over: bool, number: u32, text: &[u8]) -> bool
     requires { ⌜ length (now text) ≤ widthIn number fields ⌝ }
-    ensures { λ r. ⌜ r ≡ pick values (valueHolds k) (formatHolds k «blank_over») number (now (text .entry)) ⌝ }
+    ensures { λ r. ⌜ ((m : List ℕ) → fieldText number m ≡ now (text .entry) → r ≡ passesIn values (formOf k) «blank_over» m number) ⌝ }
 {
     if values {
         return value_holds(k, number, text);
@@ -271,9 +301,8 @@ fn passes(values: bool, k: Kind, blank_over: bool, number: u32, text: &[u8]) -> 
 }
 
 // The lowest field that does not pass.
-fn first_broken(values: bool, code: u32, k: Kind, blank_over: bool, m: &[u8]) -> Fault
-    requires { ⌜ length (now m) ≡ 161 ⌝ }
-    ensures { λ r. ⌜ r ≡ firstBroken (pick values (valueHolds k) (formatHolds k «blank_over»)) code (layout k) (now (m .entry)) ⌝ }
+fn first_broken(values: bool, code: u32, about: About, k: Kind, blank_over: bool, m: &[u8]) -> Fault
+    ensures { λ r. ⌜ r ≡ lowestBroken code about (passesIn values (formOf k) «blank_over» (now (m .entry))) (layout k) ⌝ }
 {
     let count = count_of(k);
     let mut i = 0;
@@ -283,6 +312,7 @@ fn first_broken(values: bool, code: u32, k: Kind, blank_over: bool, m: &[u8]) ->
             return Fault::Found {
                 code,
                 field: number,
+                about,
             };
         }
         i += 1;
@@ -290,30 +320,43 @@ fn first_broken(values: bool, code: u32, k: Kind, blank_over: bool, m: &[u8]) ->
     Fault::Sound
 }
 
-// The first fault: of one record alone by its number, else of the format, else of the values.
-pub fn fault_of(k: Kind, alone: u32, blank_over: bool, m: [u8; 161]) -> Fault
-    ensures { λ r. ⌜ r ≡ faultOf k alone «blank_over» m ⌝ }
+// The first fault of a message that was collected whole: of the format, else of the values.
+fn first_fault(k: Kind, about: About, blank_over: bool, m: &[u8]) -> Fault
+    ensures { λ r. ⌜ r ≡ firstFailing (formChecks (formOf k) about (record { extent = Whole; blank = «blank_over»; text = now (m .entry) })) ⌝ }
 {
-    match alone {
-        1 => Fault::Found {
+    let format = first_broken(false, 1010, about, k, blank_over, m);
+    match format {
+        Fault::Sound => first_broken(true, 1011, about, k, blank_over, m),
+        Fault::Found { code, field, about } => Fault::Found { code, field, about },
+    }
+}
+
+// The first fault: of a message that is one record alone by what made it so.
+pub fn fault_of(k: Kind, about: About, extent: Extent, blank_over: bool, m: &[u8]) -> Fault
+    ensures { λ r. ⌜ r ≡ firstFailing (formChecks (formOf k) about (record { extent = extent; blank = «blank_over»; text = now (m .entry) })) ⌝ }
+{
+    match extent {
+        Extent::Whole => first_fault(k, about, blank_over, m),
+        Extent::TooShort => Fault::Found {
             code: 1032,
             field: 0,
+            about,
         },
-        2 => Fault::Found {
+        Extent::LengthNotDigits => Fault::Found {
             code: 1010,
             field: 20,
+            about,
         },
-        3 => Fault::Found {
+        Extent::OtherLength => Fault::Found {
             code: 1011,
             field: 20,
+            about,
         },
-        _ => {
-            let format = first_broken(false, 1010, k, blank_over, &m);
-            match format {
-                Fault::Sound => first_broken(true, 1011, k, blank_over, &m),
-                Fault::Found { code, field } => Fault::Found { code, field },
-            }
-        }
+        Extent::CutShort => Fault::Found {
+            code: 1032,
+            field: 0,
+            about,
+        },
     }
 }
 
@@ -334,15 +377,7 @@ pub fn sender(m: [u8; 161]) -> [u8; 25]
     out
 }
 
-// The fifteen digits of the stamp as they stand, and as a number.
-pub fn stamp_text(m: [u8; 161]) -> [u8; 15]
-    ensures { λ r. ⌜ r ≡ stampTextOf m ⌝ }
-{
-    let mut out = [0u8; 15];
-    text::copy(&mut out, span(13, 16, &m));
-    out
-}
-
+// The fifteen digits of the stamp as a number.
 pub fn stamp(m: [u8; 161]) -> u64
     ensures { λ r. ⌜ r ≡ stampOf m ⌝ }
 {

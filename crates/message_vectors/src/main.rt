@@ -1,4 +1,6 @@
 // Messages with one field changed, or two, and the fault that each has.
+use message::About;
+use message::Extent;
 use message::Fault;
 use message::Kind;
 
@@ -70,14 +72,25 @@ fn put(m: [u8; 161], number: u32, bytes: &[u8]) -> [u8; 161] {
     out
 }
 
+// What was collected, by its place among the five.
+fn extent_of(n: u32) -> Extent {
+    match n {
+        1 => Extent::TooShort,
+        2 => Extent::LengthNotDigits,
+        3 => Extent::OtherLength,
+        4 => Extent::CutShort,
+        _ => Extent::Whole,
+    }
+}
+
 // A line: the kind, what is put into which fields, and the fault.
-fn tell(k: Kind, alone: u32, blank_over: bool, m: [u8; 161]) {
-    match message::fault_of(k, alone, blank_over, m) {
+fn tell(k: Kind, extent: u32, blank_over: bool, m: [u8; 161]) {
+    match message::fault_of(k, About::Answered, extent_of(extent), blank_over, &m) {
         Fault::Sound => say(
             b"-> sound
 ",
         ),
-        Fault::Found { code, field } => {
+        Fault::Found { code, field, about } => {
             let mut out = [0u8; 4];
             text::write_number(&mut out, code as u64);
             say(b"-> ");

@@ -17,7 +17,7 @@ use Rattle.refinement.specs.Stands.{TableIs, Stands, answeredAs}
 use Rattle.refinement.proofs.Whole.{stands-opened}
 use Rattle.refinement.proofs.Refines.{refines}
 use Rattle.calls.specs.Reading.{openingAnswer, openingGives, openingLeaves}
-use Rattle.protocol.specs.Protocol.{Saw, Runs}
+use Rattle.protocol.specs.Protocol.{Saw, Lent, Runs}
 use Rattle.protocol.proofs.Runs.{runs-are}
 use Rattle.protocol.proofs.Opened.{opening-served, session-is, opening-leaves, opening-table, opening-says, good-opened}
 
@@ -63,16 +63,16 @@ module _ (b : List ℕ) (o : Opening) (z : openingAnswer b o ≡ 0) where
   unfolding wholeFile answeredAs
   told-is file = refines o b (opening-served b o z .real) file (length file) 0 (omega arith) (atStart dated) [] (opened o) (openingLeaves b o) begins
 
-  all-told : (file : List ℕ) → allTold 0 (openingGives b o .session) (openingLeaves b o) file
+  pub all-told : (file : List ℕ) → allTold 0 (openingGives b o .session) (openingLeaves b o) file
       ≡ record { given = wholeFile o dated file .given; table = written b (wholeFile o dated file .standing .table) }
   all-told file = ap (λ (s : Session). allTold 0 s (openingLeaves b o) file) (session-is b o z) ∙ told-is file
 
 -- THE THEOREM: whatever the sizes of the reads, a run over an opened file shows the whole-file answer, each reply at the place that settles it
-pub any-cuts : (b : List ℕ) (o : Opening) (file ks : List ℕ) (l : Saw) → openingAnswer b o ≡ 0
-    → Runs ks 0 (openingGives b o .session) (openingLeaves b o) file l
+pub any-cuts : (b : List ℕ) (o : Opening) (file : List ℕ) (ks : List Lent) (rooms : List (List ℕ)) (l : Saw) → openingAnswer b o ≡ 0
+    → Runs ks rooms 0 (openingGives b o .session) (openingLeaves b o) file l
     → l ≡ record {
       given = wholeFile o (withDay (tableOf b) (o .today .yymmdd)) file .given;
       table = written b (wholeFile o (withDay (tableOf b) (o .today .yymmdd)) file .standing .table);
     }
-any-cuts b o file ks l z r =
+any-cuts b o file ks rooms l z r =
     runs-are r (good-opened b o z) ∙ ap (λ (a : Answered). record { given = a .given; table = a .table }) (all-told b o z file)

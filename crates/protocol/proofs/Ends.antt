@@ -22,7 +22,8 @@ use Rattle.calls.specs.Reading.{Done, servedBy, awaits, finishes, endServed, en
 use Rattle.calls.specs.Calls.{shownBy}
 use Rattle.refinement.proofs.Last.{given-append}
 use Rattle.protocol.specs.Protocol.{Saw, seenAt, sooner, Ends, again, last}
-use Rattle.protocol.proofs.Good.{EndGood, end-served, keeps-end-good, awaits-good}
+use Rattle.protocol.specs.Ready.{EndGood}
+use Rattle.protocol.proofs.Good.{end-served, keeps-end-good, awaits-good}
 use Rattle.protocol.proofs.Lengths.{last-long, file-long}
 use Rattle.protocol.proofs.Shown.{seen-is, said-none}
 use Rattle.protocol.proofs.Second.{due-given, Next, next-end}
@@ -85,7 +86,7 @@ module _ (at : ℕ) (s : Session) (w : List ℕ) (room : List ℕ) (h : 317 ≤ 
       ap (λ (l : List Answering). record { given = givenAt at (l ++ saidBy (fileTurn s w)); table = fileTurn s w .table })
       (sym (said-none (lastTurn s w) e))
 
-  finished-case : (d : Done) → EndCase (lastTurn s w) (fileTurn s w) room d → d .answer .finished ≡ true
+  pub finished-case : (d : Done) → EndCase (lastTurn s w) (fileTurn s w) room d → d .answer .finished ≡ true
       → record { given = seenAt at (shownBy d); table = d .table } ≡ saw (endTold at s w)
   unfolding servedBy
   finished-case d (another-due e k is) f = absurd (false≢true (sym (ap (λ (x : Done). x .answer .finished) is) ∙ f))
@@ -141,11 +142,11 @@ module _ (s : Session) (w : List ℕ) where
         ∙ ap (λ (x : List Given). record { given = x; table = fileTurn s w .table }) (sym (given-append at (saidBy (lastTurn s w)) (saidBy (fileTurn s w))))
 
 -- such an end leaves a good state, and with what the ends after it show it shows all
-record Again (at : ℕ) (s : Session) (w : List ℕ) (d : Done) : Type 0 where
-  good : EndGood (d .answer .session) (d .table)
-  shows : (l : Saw) → l ≡ saw (endTold at (d .answer .session) (d .table)) → sooner (seenAt at (shownBy d)) l ≡ saw (endTold at s w)
+pub record Again (at : ℕ) (s : Session) (w : List ℕ) (d : Done) : Type 0 where
+  pub good : EndGood (d .answer .session) (d .table)
+  pub shows : (l : Saw) → l ≡ saw (endTold at (d .answer .session) (d .table)) → sooner (seenAt at (shownBy d)) l ≡ saw (endTold at s w)
 
-again-case : (at : ℕ) (s : Session) (w room : List ℕ) → 317 ≤ length room → EndGood s w
+pub again-case : (at : ℕ) (s : Session) (w room : List ℕ) → 317 ≤ length room → EndGood s w
     → (d : Done) → EndCase (lastTurn s w) (fileTurn s w) room d → d .answer .finished ≡ false → Again at s w d
 unfolding servedBy
 again-case at s w room h g d (another-due e k is) f =
@@ -153,7 +154,8 @@ again-case at s w room h g d (another-due e k is) f =
 again-case at s w room h g d (last-reply e k is) f = absurd (false≢true (sym f ∙ ap (λ (x : Done). x .answer .finished) is))
 again-case at s w room h g d (file-only e is) f = absurd (false≢true (sym f ∙ ap (λ (x : Done). x .answer .finished) is))
 
-pub ends-are : {at : ℕ} {s : Session} {w : List ℕ} {l : Saw} → Ends at s w l → EndGood s w → l ≡ saw (endTold at s w)
+pub ends-are : {rooms : List (List ℕ)} {at : ℕ} {s : Session} {w : List ℕ} {l : Saw} → Ends rooms at s w l → EndGood s w
+    → l ≡ saw (endTold at s w)
 ends-are (again {at = at} {s = s} {w = w} {l = l} room h f r) g =
     let a = again-case at s w room h g (endDone s w room) (end-is s w room h g) f in
     a .shows l (ends-are r (a .good))

@@ -8,34 +8,23 @@ use borrow.Author.Tests.{eq-eqb, eqb-true, le-ltb}
 use lib.Dec.{eqb}
 use lib.ListN.{length}
 use Rattle.ground.specs.Choice.{fails}
-use Rattle.ground.proofs.Choices.{picks}
+use Rattle.ground.proofs.Choices.{picks, fails-false}
 use Rattle.calendar.specs.Dates.{realDate}
 use Rattle.table.specs.Decode.{isTable, tableOf}
 use Rattle.table.proofs.Sound
 use Rattle.table.proofs.Decode
 use Rattle.conditions.specs.Refusals.{refusal, lowest, noTable}
-use Rattle.conditions.proofs.Refused.{lowest-next, none-left, fails-false, neither, either-none, agree}
+use Rattle.conditions.proofs.Refused.{lowest-next, none-left, neither, either-none, agree}
 use Rattle.answers.specs.declared.Opening.{Opening}
 use Rattle.session.specs.Events.{Turn, fileEnded}
 use Rattle.session.specs.Machine.{scanned, lastEnded}
-use Rattle.session.specs.Ranges.{Fits, inRange, isClosed, endRefused, readRefused}
+use Rattle.session.specs.Ranges.{inRange, isClosed, endRefused, readRefused}
 use Rattle.session.specs.declared.Session.{Session}
 use Rattle.cutting.proofs.Keeps.{Keeps}
 use Rattle.cutting.proofs.Ranged.{in-range, still-fits, same-opening, same-opened, same-ended}
 use Rattle.cutting.proofs.Tables.{still-table, same-table-day}
+use Rattle.protocol.specs.Ready.{Good, EndGood}
 use Rattle.calls.specs.Reading.{Done, readingRefusals, endingRefusals, readServed, readDone, endServed, endDone, awaits}
-
--- the session s over the table bytes w: a read is not refused
-pub record Good (s : Session) (w : List ℕ) : Type 0 where
-  pub table : isTable w ≡ true
-  pub fits : Fits s
-  pub reads : readRefused s (tableOf w .day) ≡ false
-
--- an end is not refused
-pub record EndGood (s : Session) (w : List ℕ) : Type 0 where
-  pub table : isTable w ≡ true
-  pub fits : Fits s
-  pub ends : endRefused s (tableOf w .day) ≡ false
 
 -- ---- what refusal 3 asks, part by part
 

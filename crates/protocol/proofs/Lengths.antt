@@ -14,24 +14,27 @@ use Rattle.table.specs.Table.{settingsFit}
 use Rattle.table.specs.Decode.{isTable, tableOf}
 use Rattle.table.proofs.Sound
 use Rattle.table.proofs.Decode
+use Rattle.message.specs.declared.Extent.{Extent}
+use Rattle.message.specs.declared.Extent.the-variants.{Whole, CutShort}
 use Rattle.message.specs.declared.Kind.{Kind}
 use Rattle.message.specs.declared.Kind.the-variants.{Esi, Suo, Var}
 use Rattle.verdict.specs.declared.Outcome.{Outcome}
 use Rattle.reply.specs.declared.Answering.{Answering}
-use Rattle.answers.specs.Answers.{bareAnswer, verdictAnswer}
+use Rattle.answers.specs.Answers.{bareAnswer, fullAnswer, verdictAnswer}
 use Rattle.answers.specs.declared.Opening.{Opening}
 use Rattle.whole.specs.WholeFile.{occasion}
 use Rattle.session.specs.Lines.{Event, characters, recordEnds, sizePassed, eventOf, lineAfter, waited, lineEnded}
-use Rattle.session.specs.Events.{Turn, noReply, silent, replies, bareTurn, heard, collectedBy, esiDone, frameBy, varDone, esiOn, varOn, aloneBy, esiStart, varStart, firstEnds, outsideEnds, frameEnds, collectingEnds, endsIn, recordEnded, passedIn, passed, cutShort, finishedIn, fileEnded}
+use Rattle.session.specs.Events.{Turn, noReply, silent, replies, bareTurn, heard, collectedBy, esiDone, frameBy, varDone, esiOn, varOn, extentBy, esiStart, varStart, firstEnds, outsideEnds, frameEnds, collectingEnds, endsIn, recordEnded, passedIn, passed, cutShort, finishedIn, fileEnded}
 use Rattle.session.specs.Machine.{Scan, withLine, onEvent, stepped, scanOn, scanned, lastEnded}
 use Rattle.session.specs.Ranges.{Fits}
 use Rattle.session.specs.declared.Place.{Place}
 use Rattle.session.specs.declared.Place.the-variants.{BeforeEsi, Outside, Collecting, InData, Closed}
 use Rattle.session.specs.declared.Session.{Session}
 use Rattle.cutting.proofs.Leaves.{esi-still, frame-still}
-use Rattle.cutting.proofs.Keeps.{Keeps, keeps-step}
-use Rattle.cutting.proofs.Stays.{Stays, stays-line, stays-heard}
-use Rattle.protocol.proofs.Good.{EndGood, real-day}
+use Rattle.cutting.proofs.Keeps.{Keeps, keeps-step, heard-later}
+use Rattle.cutting.proofs.Stays.{Stays, byte-later, stays-line, stays-heard}
+use Rattle.protocol.specs.Ready.{EndGood}
+use Rattle.protocol.proofs.Good.{real-day}
 
 -- ---- the lengths in an answer
 
@@ -63,9 +66,11 @@ bare-long w o pte code field e =
 verdict-long : (w : List ℕ) (o : Opening) (pte : Bool) (out : Outcome) (m closing : List ℕ) → isTable w ≡ true → length m ≡ 161
     → length closing ≡ 161
     → Long (verdictAnswer (tableOf w) o pte out m closing)
-unfolding verdictAnswer
+unfolding verdictAnswer fullAnswer
 verdict-long w o pte out m closing e l c =
-    let k = settings-long w e in record { bank-long = k .0; software-long = k .1; message-long = l; closing-long = c }
+    let k = settings-long w e in
+    picked Long _ _ _ (λ b. bare-long w o pte (out .code) (out .field) e)
+    (λ b. record { bank-long = k .0; software-long = k .1; message-long = l; closing-long = c })
 
 -- ---- the answer of every turn
 
@@ -94,31 +99,31 @@ module _ (s : Session) (w : List ℕ) (r : Rests s w) where
   unfolding bareTurn
   bare-turn pte code field u = replies-long u w (bare-long w (s .opening) pte code field (r .table))
 
-  esi-long : (alone : ℕ) → Speaks (esiDone s w (collectedBy Esi alone (s .gathered)))
+  esi-long : (extent : Extent) → Speaks (esiDone s w (collectedBy Esi extent (s .gathered)))
   unfolding esiDone collectedBy occasion
-  esi-long alone =
-      let m = collectedBy Esi alone (s .gathered) in
+  esi-long extent =
+      let m = collectedBy Esi extent (s .gathered) in
       let l = r .fits .message-long in
       replies-long _ _ (verdict-long _ (s .opening) false _ _ _ (esi-still w (occasion (s .opening) (s .made)) m (r .table) (r .real) l .is-table) l l)
 
-  var-long : (alone : ℕ) → Speaks (varDone s w (collectedBy Var alone (s .gathered)))
+  var-long : (extent : Extent) → Speaks (varDone s w (collectedBy Var extent (s .gathered)))
   unfolding varDone collectedBy occasion frameBy
-  var-long alone =
-      let f = frameBy s (collectedBy Var alone (s .gathered)) in
+  var-long extent =
+      let f = frameBy s (collectedBy Var extent (s .gathered)) in
       let k = frame-still w (occasion (s .opening) (s .made)) f (r .table) (r .real) (r .fits .suo-long) (r .fits .key-fits) in
       replies-long _ _ (verdict-long _ (s .opening) true _ _ _ (k .is-table) (r .fits .suo-long) (r .fits .message-long))
 
   esi-on-long : Speaks (esiOn s w)
   unfolding esiOn
-  esi-on-long = either-long _ _ _ (silent-long _ w) (esi-long 0)
+  esi-on-long = either-long _ _ _ (silent-long _ w) (esi-long Whole)
 
   var-on-long : Speaks (varOn s w)
   unfolding varOn
-  var-on-long = either-long _ _ _ (silent-long _ w) (var-long 0)
+  var-on-long = either-long _ _ _ (silent-long _ w) (var-long Whole)
 
   first-long : Speaks (firstEnds s w)
   unfolding firstEnds esiStart
-  first-long = either-long _ _ _ (either-long _ _ _ esi-on-long (esi-long (aloneBy Esi s))) (bare-turn false 1010 10 _)
+  first-long = either-long _ _ _ (either-long _ _ _ esi-on-long (esi-long (extentBy Esi s))) (bare-turn false 1010 10 _)
 
   outside-long : Speaks (outsideEnds s w)
   unfolding outsideEnds
@@ -129,7 +134,7 @@ module _ (s : Session) (w : List ℕ) (r : Rests s w) where
   frame-long : Speaks (frameEnds s w)
   unfolding frameEnds varStart
   frame-long =
-      either-long _ _ _ (either-long _ _ _ var-on-long (var-long (aloneBy Var s)))
+      either-long _ _ _ (either-long _ _ _ var-on-long (var-long (extentBy Var s)))
       (either-long _ _ _ (bare-turn true 1024 0 _) (either-long _ _ _ (bare-turn true 1024 0 _) (silent-long _ w)))
 
   collecting-long : (kind : Kind) → Speaks (collectingEnds kind s w)
@@ -164,9 +169,9 @@ module _ (s : Session) (w : List ℕ) (r : Rests s w) where
 
   short-long : (kind : Kind) → Speaks (cutShort kind s w)
   unfolding cutShort
-  short-long Esi = esi-long 1
+  short-long Esi = esi-long CutShort
   short-long Suo = bare-turn true 1032 0 _
-  short-long Var = var-long 1
+  short-long Var = var-long CutShort
 
   finished-long : (p : Place) → Speaks (finishedIn p s w)
   unfolding finishedIn
@@ -203,7 +208,7 @@ event-long sizePassed s w r = passed-long s w r
 
 step-long : (s : Session) (w : List ℕ) (b : ℕ) → Rests s w → Speaks (stepped s w b)
 unfolding stepped
-step-long s w b r = event-long (eventOf (s .line) b) _ w (rests-stays (stays-line s (lineAfter (s .line) b)) r)
+step-long s w b r = event-long (eventOf (s .line) b) _ w (rests-stays (stays-line s (lineAfter (s .line) b) (byte-later (s .line) b)) r)
 
 scanned-long : (xs : List ℕ) (s : Session) (w : List ℕ) → Rests s w → Speaks (scanned s w xs .turn)
 unfolding scanned scanOn
@@ -218,7 +223,9 @@ unfolding lastEnded
 last-spoken s w r =
     let u = heard s (waited (s .line .cr)) in
     either-long s w r _ _ _
-    (record-long (withLine u (lineEnded (s .line))) w (rests-stays (stays-line u (lineEnded (s .line))) (rests-stays (stays-heard s (waited (s .line .cr))) r)))
+    (record-long (withLine u (lineEnded (s .line))) w
+    (rests-stays (stays-line u (lineEnded (s .line)) (heard-later s (waited (s .line .cr))))
+    (rests-stays (stays-heard s (waited (s .line .cr))) r)))
     (silent-long s w)
 
 rests : {s : Session} {w : List ℕ} → EndGood s w → Rests s w

@@ -6,9 +6,8 @@ use mathlib.Core.List.{List}
 use mathlib.Core.Bool.{true, false}
 use native.Mathlib.Omega.{arith}
 use borrow.Author.Tests.{eq-eqb, le-leb}
-use lib.ListN.{length-replicate}
-use Rattle.ground.specs.Choice.{between}
-use Rattle.ground.proofs.Choices.{picks, join}
+use Rattle.ground.specs.Choice.{fails, between}
+use Rattle.ground.proofs.Choices.{picks, join, fails-false}
 use Rattle.calendar.specs.Dates.{realDate, realTime}
 use Rattle.table.specs.Table.{Table, soundTable, withDay}
 use Rattle.table.specs.Written.{written}
@@ -16,16 +15,17 @@ use Rattle.table.specs.Decode.{isTable, tableOf}
 use Rattle.table.proofs.Sound
 use Rattle.table.proofs.Decode
 use Rattle.conditions.specs.Refusals.{noTable, badDay}
-use Rattle.conditions.proofs.Refused.{served, fails-false, neither, either-none}
+use Rattle.conditions.proofs.Refused.{served, neither, either-none}
 use Rattle.register.proofs.Rewritten.{served-leaves}
-use Rattle.checks.specs.Checks.{keyOr0}
 use Rattle.answers.specs.declared.Opening.{Opening}
 use Rattle.session.specs.Machine.{opened}
-use Rattle.session.specs.Ranges.{Fits, inRange, isClosed, readRefused}
+use Rattle.session.specs.Ranges.{isCut, inRange, isClosed, readRefused}
 use Rattle.session.specs.declared.Session.{Session}
+use Rattle.session.proofs.Fresh.{opened-fits}
 use Rattle.cutting.proofs.Stays.{nothing-kept}
 use Rattle.calls.specs.Reading.{openingRefusals, openingAnswer, openingGives, openingLeaves}
-use Rattle.protocol.proofs.Good.{Good, Going, going}
+use Rattle.protocol.specs.Ready.{Good}
+use Rattle.protocol.proofs.Good.{Going, going}
 
 -- ---- what a served opening asked
 
@@ -78,20 +78,10 @@ module _ (b : List ℕ) (o : Opening) (z : openingAnswer b o ≡ 0) where
 
   -- ---- its session
 
-  opened-fits : Fits (opened o)
-  unfolding opened keyOr0
-  opened-fits =
-      record {
-        message-long = nothing-kept .1;
-        suo-long = length-replicate {A = ℕ} 161 0;
-        sender-long = length-replicate {A = ℕ} 25 0;
-        key-fits = omega arith;
-      }
-
   opened-ranged : inRange (opened o) ≡ true
-  unfolding opened inRange
+  unfolding opened inRange isCut fails
   opened-ranged =
-      join _ _ (asked .time) (join _ _ (asked .kind) (join _ _ (le-leb _ _ (nothing-kept .0)) (le-leb 0 3 (omega arith))))
+      join _ _ (asked .time) (join _ _ (asked .kind) (join _ _ (le-leb _ _ (nothing-kept .0)) refl))
 
   opened-going : Going (opened o) (tableOf (openingLeaves b o) .day)
   unfolding opened isClosed
@@ -104,4 +94,4 @@ module _ (b : List ℕ) (o : Opening) (z : openingAnswer b o ≡ 0) where
   pub good-opened : Good (openingGives b o .session) (openingLeaves b o)
   good-opened =
       subst (λ (s : Session). Good s (openingLeaves b o)) (sym session-is)
-      (record { table = opening-table; fits = opened-fits; reads = opened-reads })
+      (record { table = opening-table; fits = opened-fits o; reads = opened-reads })

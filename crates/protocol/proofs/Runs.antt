@@ -15,8 +15,9 @@ use Rattle.cutting.proofs.Keeps.{keeps-scan}
 use Rattle.refinement.proofs.Quiet.{closed-quiet}
 use Rattle.calls.specs.Reading.{Done, servedBy, readServed, readDone}
 use Rattle.calls.specs.Calls.{shownBy}
-use Rattle.protocol.specs.Protocol.{Saw, seenAt, sooner, Runs, read, shut, close}
-use Rattle.protocol.proofs.Good.{Good, end-good, read-served, keeps-good}
+use Rattle.protocol.specs.Protocol.{Saw, seenAt, sooner, Lent, Runs, read, shut, close}
+use Rattle.protocol.specs.Ready.{Good}
+use Rattle.protocol.proofs.Good.{end-good, read-served, keeps-good}
 use Rattle.protocol.proofs.Lengths.{scan-long}
 use Rattle.protocol.proofs.Shown.{seen-is}
 use Rattle.protocol.proofs.Ends.{saw, ends-are}
@@ -87,7 +88,8 @@ module _ (k at : ℕ) (s : Session) (w rest room : List ℕ) (h : 317 ≤ length
 
 -- ---- a whole run
 
-pub runs-are : {ks : List ℕ} {at : ℕ} {s : Session} {w rest : List ℕ} {l : Saw} → Runs ks at s w rest l → Good s w
+pub runs-are : {ks : List Lent} {rooms : List (List ℕ)} {at : ℕ} {s : Session} {w rest : List ℕ} {l : Saw}
+    → Runs ks rooms at s w rest l → Good s w
     → l ≡ record { given = allTold at s w rest .given; table = allTold at s w rest .table }
 unfolding allTold
 runs-are (read {at = at} {s = s} {w = w} {rest = rest} {l = l} k room h f r) g =

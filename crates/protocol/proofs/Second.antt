@@ -12,7 +12,7 @@ use Rattle.table.specs.Decode.{tableOf}
 use Rattle.conditions.proofs.Refused.{either-none}
 use Rattle.message.specs.declared.Kind.{Kind}
 use Rattle.message.specs.declared.Kind.the-variants.{Esi, Suo, Var}
-use Rattle.checks.specs.declared.Collected.{Collected}
+use Rattle.message.specs.declared.Collected.{Collected}
 use Rattle.reply.specs.declared.Answering.{Answering}
 use Rattle.answers.specs.Answers.{bareAnswer}
 use Rattle.answers.specs.declared.Opening.{Opening}

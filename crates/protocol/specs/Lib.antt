@@ -1,2 +1,3 @@
 -- What a caller does with a file.
 pub mod Protocol
+pub mod Ready

@@ -24,36 +24,58 @@ pub record Saw : Type 0 where
 unfoldable pub sooner : List Given → Saw → Saw
 sooner l x = record { given = l ++ x .given; table = x .table }
 
--- the end calls of a session s over table bytes w, when `at` bytes of the file were taken
-pub data Ends : ℕ → Session → List ℕ → Saw → Type 0 where
-  again : {at : ℕ} {s : Session} {w : List ℕ} {l : Saw} (room : List ℕ) → 317 ≤ length room
+-- a read as the caller lends it: how many bytes it hands in, and the reply room
+pub record Lent : Type 0 where
+  pub size : ℕ
+  pub room : List ℕ
+
+-- the end calls of a session s over table bytes w, with these reply rooms in order, when `at` bytes of the file were taken
+pub data Ends : List (List ℕ) → ℕ → Session → List ℕ → Saw → Type 0 where
+  again : {rooms : List (List ℕ)} {at : ℕ} {s : Session} {w : List ℕ} {l : Saw} (room : List ℕ) → 317 ≤ length room
       → endDone s w room .answer .finished ≡ false
-      → Ends at (endDone s w room .answer .session) (endDone s w room .table) l
-      → Ends at s w (sooner (seenAt at (shownBy (endDone s w room))) l)
+      → Ends rooms at (endDone s w room .answer .session) (endDone s w room .table) l
+      → Ends (room ∷ rooms) at s w (sooner (seenAt at (shownBy (endDone s w room))) l)
   last : {at : ℕ} {s : Session} {w : List ℕ} (room : List ℕ) → 317 ≤ length room
       → endDone s w room .answer .finished ≡ true
-      → Ends at s w (record { given = seenAt at (shownBy (endDone s w room)); table = endDone s w room .table })
+      → Ends (room ∷ []) at s w (record { given = seenAt at (shownBy (endDone s w room)); table = endDone s w room .table })
 
--- a run with reads of these sizes, in order: `at` bytes were taken, `rest` are the file's others
-pub data Runs : List ℕ → ℕ → Session → List ℕ → List ℕ → Saw → Type 0 where
-  read : {ks : List ℕ} {at : ℕ} {s : Session} {w rest : List ℕ} {l : Saw} (k : ℕ) (room : List ℕ) → 317 ≤ length room
+-- a run with these reads and then ends with these rooms, in order: `at` bytes were taken, `rest` are the file's others
+pub data Runs : List Lent → List (List ℕ) → ℕ → Session → List ℕ → List ℕ → Saw → Type 0 where
+  read : {ks : List Lent} {rooms : List (List ℕ)} {at : ℕ} {s : Session} {w rest : List ℕ} {l : Saw} (k : ℕ) (room : List ℕ)
+      → 317 ≤ length room
       → readDone s w (take k rest) room .answer .finished ≡ false
-      → Runs ks (at + readDone s w (take k rest) room .answer .taken) (readDone s w (take k rest) room .answer .session)
+      → Runs ks rooms (at + readDone s w (take k rest) room .answer .taken) (readDone s w (take k rest) room .answer .session)
       (readDone s w (take k rest) room .table)
       (drop (readDone s w (take k rest) room .answer .taken) rest)
       l
-      → Runs (k ∷ ks) at s w rest
+      → Runs (record { size = k; room = room } ∷ ks) rooms at s w rest
       (sooner (seenAt (at + readDone s w (take k rest) room .answer .taken) (shownBy (readDone s w (take k rest) room))) l)
   shut : {at : ℕ} {s : Session} {w rest : List ℕ} (k : ℕ) (room : List ℕ) → 317 ≤ length room
       → readDone s w (take k rest) room .answer .finished ≡ true
-      → Runs (k ∷ []) at s w rest
+      → Runs (record { size = k; room = room } ∷ []) [] at s w rest
       (record {
         given = seenAt (at + readDone s w (take k rest) room .answer .taken) (shownBy (readDone s w (take k rest) room));
         table = readDone s w (take k rest) room .table;
       })
-  close : {at : ℕ} {s : Session} {w : List ℕ} {l : Saw} → Ends at s w l → Runs [] at s w [] l
+  close : {rooms : List (List ℕ)} {at : ℕ} {s : Session} {w : List ℕ} {l : Saw} → Ends rooms at s w l → Runs [] rooms at s w [] l
 
--- the first n of a sequence of sizes, from the i-th on
-unfoldable pub sizesFrom : ℕ → ℕ → (ℕ → ℕ) → List ℕ
-sizesFrom zero i sizes = []
-sizesFrom (suc n) i sizes = sizes i ∷ sizesFrom n (i + 1) sizes
+-- no call of these is refused
+unfoldable pub EndsServed : {rooms : List (List ℕ)} {at : ℕ} {s : Session} {w : List ℕ} {l : Saw} → Ends rooms at s w l → Type 0
+EndsServed (again {s = s} {w = w} room h f r) = (endDone s w room .answer .refusal ≡ 0) × EndsServed r
+EndsServed (last {s = s} {w = w} room h f) = endDone s w room .answer .refusal ≡ 0
+
+unfoldable pub RunServed : {ks : List Lent} {rooms : List (List ℕ)} {at : ℕ} {s : Session} {w rest : List ℕ} {l : Saw}
+    → Runs ks rooms at s w rest l → Type 0
+RunServed (read {s = s} {w = w} {rest = rest} k room h f r) =
+    (readDone s w (take k rest) room .answer .refusal ≡ 0) × RunServed r
+RunServed (shut {s = s} {w = w} {rest = rest} k room h f) = readDone s w (take k rest) room .answer .refusal ≡ 0
+RunServed (close e) = EndsServed e
+
+-- n of a sequence of reply rooms, and of reads with them, from the i-th on
+unfoldable pub roomsFrom : ℕ → ℕ → (ℕ → List ℕ) → List (List ℕ)
+roomsFrom zero i rooms = []
+roomsFrom (suc n) i rooms = rooms i ∷ roomsFrom n (i + 1) rooms
+
+unfoldable pub readsFrom : ℕ → ℕ → (ℕ → ℕ) → (ℕ → List ℕ) → List Lent
+readsFrom zero i sizes rooms = []
+readsFrom (suc n) i sizes rooms = record { size = sizes i; room = rooms i } ∷ readsFrom n (i + 1) sizes rooms

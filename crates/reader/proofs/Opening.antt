@@ -6,13 +6,13 @@ use mathlib.Core.Bool.{true, false}
 use mathlib.Core.List.{List, [], _∷_}
 use borrow.Author.Tests.{eq-eqb, ne-eqb}
 use Rattle.ground.specs.Choice.{either, fails, between}
-use Rattle.ground.proofs.Choices.{picks, skips, either-left, either-right, between-in, between-below, between-above}
+use Rattle.ground.proofs.Choices.{picks, skips, either-left, either-right, between-in, between-below, between-above, fails-false}
 use Rattle.calendar.specs.Dates.{realTime}
 use Rattle.table.specs.Decode.{isTable, tableOf}
 use Rattle.table.specs.Stored.{dayStored}
 use Rattle.table.proofs.Stores.{day-is}
 use Rattle.conditions.specs.Refusals.{lowest, noTable, badDay}
-use Rattle.conditions.proofs.Refused.{lowest-first, lowest-next, none-left, served, fails-false, either-none}
+use Rattle.conditions.proofs.Refused.{lowest-first, lowest-next, none-left, served, either-none}
 use Rattle.register.proofs.Rewritten.{served-leaves, refused-as}
 use Rattle.answers.specs.declared.Opening.{Opening}
 use Rattle.session.specs.Machine.{opened, unopened}

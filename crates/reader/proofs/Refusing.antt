@@ -8,9 +8,12 @@ use borrow.Author.Tests.{lt-ltb, le-ltb}
 use lib.Dec.{ltb}
 use lib.ListN.{length}
 use Rattle.ground.specs.Choice.{pick, fails}
-use Rattle.table.specs.Decode.{isTable}
+use Rattle.table.specs.Decode.{isTable, tableOf}
 use Rattle.conditions.specs.Refusals.{Refusal, refusal, lowest, noTable}
 use Rattle.conditions.proofs.Refused.{lowest-first, lowest-next, none-left, served}
+use Rattle.session.specs.Ranges.{readRefused, endRefused}
+use Rattle.session.specs.declared.Session.{Session}
+use Rattle.calls.specs.Reading.{readingRefusals, endingRefusals}
 use Rattle.reader.specs.Lent.{lentRefusals}
 
 -- a refusal among the first stands before those that follow
@@ -48,7 +51,7 @@ module _ (w room : List ℕ) where
   -- ---- all three
 
   module _ (third : Bool) {n : ℕ} (e : n ≡ lowest (lentRefusals w room)) where
-    pub lent-refuses : (n ≡ 0 → ⊥) → n ≡ lowest (threeOf w room third)
+    lent-refuses : (n ≡ 0 → ⊥) → n ≡ lowest (threeOf w room third)
     unfolding lentRefusals
     lent-refuses z = e ∙ sym (first-kept (lentRefusals w room) (refusal 3 third ∷ []) (λ q. z (e ∙ q)))
 
@@ -60,8 +63,36 @@ module _ (w room : List ℕ) where
           let b = served 2 _ _ refl (a .1) in
           lowest-next _ _ (a .0) ∙ lowest-next _ _ (b .0)
 
-      pub session-refuses : third ≡ true → 3 ≡ lowest (threeOf w room third)
+      session-refuses : third ≡ true → 3 ≡ lowest (threeOf w room third)
       session-refuses t = sym (lent-passes ∙ lowest-first _ _ t)
 
-      pub none-refuses : third ≡ false → lowest (threeOf w room third) ≡ 0
+      none-refuses : third ≡ false → lowest (threeOf w room third) ≡ 0
       none-refuses t = lent-passes ∙ lowest-next _ _ t ∙ sym none-left
+
+-- ---- a read and an end: their third condition is the session's
+
+module _ (s : Session) (w room : List ℕ) {n : ℕ} (e : n ≡ lowest (lentRefusals w room)) where
+  pub read-lent : (n ≡ 0 → ⊥) → n ≡ lowest (readingRefusals s w room)
+  unfolding readingRefusals
+  read-lent z = lent-refuses w room _ e z
+
+  pub end-lent : (n ≡ 0 → ⊥) → n ≡ lowest (endingRefusals s w room)
+  unfolding endingRefusals
+  end-lent z = lent-refuses w room _ e z
+
+  module _ (z : n ≡ 0) {day : ℕ} {t : Bool} (d : day ≡ tableOf w .day) where
+    pub read-session : t ≡ readRefused s day → t ≡ true → 3 ≡ lowest (readingRefusals s w room)
+    unfolding readingRefusals
+    read-session q h = session-refuses w room _ e z (sym (q ∙ ap (readRefused s) d) ∙ h)
+
+    pub read-none : t ≡ readRefused s day → t ≡ false → 0 ≡ lowest (readingRefusals s w room)
+    unfolding readingRefusals
+    read-none q h = sym (none-refuses w room _ e z (sym (q ∙ ap (readRefused s) d) ∙ h))
+
+    pub end-session : t ≡ endRefused s day → t ≡ true → 3 ≡ lowest (endingRefusals s w room)
+    unfolding endingRefusals
+    end-session q h = session-refuses w room _ e z (sym (q ∙ ap (endRefused s) d) ∙ h)
+
+    pub end-none : t ≡ endRefused s day → t ≡ false → 0 ≡ lowest (endingRefusals s w room)
+    unfolding endingRefusals
+    end-none q h = sym (none-refuses w room _ e z (sym (q ∙ ap (endRefused s) d) ∙ h))

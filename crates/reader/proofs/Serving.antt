@@ -5,22 +5,18 @@ use mathlib.Core.Path.{_≡_, refl, sym, ap, ap₂, _∙_}
 use mathlib.Core.Bool.{Bool, true, false}
 use mathlib.Core.List.{List}
 use borrow.Author.Tests.{eq-eqb, ne-eqb}
-use native.Mathlib.Omega.{arith}
 use lib.Dec.{eqb}
 use Rattle.ground.specs.Choice.{pick}
 use Rattle.ground.proofs.Choices.{picks, skips}
-use Rattle.table.specs.Decode.{tableOf}
 use Rattle.conditions.specs.Refusals.{lowest}
 use Rattle.session.specs.Events.{Turn, fileEnded, isDue}
 use Rattle.session.specs.Machine.{Scan, scanned, lastEnded}
-use Rattle.session.specs.Ranges.{isClosed, readRefused, endRefused}
+use Rattle.session.specs.Ranges.{isClosed}
 use Rattle.session.specs.declared.Session.{Session}
 use Rattle.session.specs.declared.Reply.{Reply}
 use Rattle.session.specs.declared.Stepped.{Stepped}
 use Rattle.calls.specs.Reading.{Done, refusedBy, servedBy, roomAfter, lengthOf, readingRefusals, endingRefusals, readServed, readDone, awaits, finishes, endServed, endDone}
 use Rattle.calls.specs.declared.Answer.{Answer}
-use Rattle.reader.specs.Lent.{lentRefusals}
-use Rattle.reader.proofs.Refusing.{lent-refuses, session-refuses, none-refuses}
 
 -- what the code answers and leaves is what the definition says
 abbrev pub Does : Done → Answer → List ℕ → List ℕ → Type 0
@@ -65,106 +61,84 @@ does-served x s taken finished room l r e = (
 
 -- ---- a read
 
-module _ (s : Session) (w input room : List ℕ) {n : ℕ} (e : n ≡ lowest (lentRefusals w room)) where
-  pub read-lent : (n ≡ 0 → ⊥) → {a : Answer} → a ≡ record { refusal = n; taken = 0; length = 0; finished = false; session = s }
+module _ (s : Session) (w input room : List ℕ) {n : ℕ} (e : n ≡ lowest (readingRefusals s w room)) where
+  pub read-refused : (n ≡ 0 → ⊥) → {a : Answer} → a ≡ record { refusal = n; taken = 0; length = 0; finished = false; session = s }
       → Does (readDone s w input room) a w room
-  unfolding readDone readingRefusals
-  read-lent z r =
-      does (is-refused _ _ s w room (lent-refuses w room (readRefused s (tableOf w .day)) e z) z) (does-refused n s w room r)
+  unfolding readDone
+  read-refused z r = does (is-refused _ _ s w room e z) (does-refused n s w room r)
 
-  module _ (z : n ≡ 0) {day : ℕ} {t : Bool} (d : day ≡ tableOf w .day) (q : t ≡ readRefused s day) where
-    read-asked : t ≡ readRefused s (tableOf w .day)
-    read-asked = q ∙ ap (readRefused s) d
-
-    pub read-session : t ≡ true → {a : Answer} → a ≡ record { refusal = 3; taken = 0; length = 0; finished = false; session = s }
-        → Does (readDone s w input room) a w room
-    unfolding readDone readingRefusals
-    read-session h r =
-        does (is-refused _ _ s w room (session-refuses w room _ e z (sym read-asked ∙ h)) (λ k. omega arith)) (does-refused 3 s w room r)
-
-    pub read-served : t ≡ false → {u : Session} {y : Reply} {k : ℕ} {v : List ℕ}
-        → (u ≡ scanned s w input .turn .out .session) × (y ≡ scanned s w input .turn .out .reply) × (k ≡ scanned s w input .taken)
-        → v ≡ scanned s w input .turn .table
-        → {len : ℕ} {after : List ℕ}
-        → len ≡ lengthOf y room
-        → after ≡ roomAfter y room
-        → {f : Bool}
-        → f ≡ isClosed (u .place)
-        → Does (readDone s w input room) (record { refusal = 0; taken = k; length = len; finished = f; session = u }) v after
-    unfolding readDone readingRefusals readServed
-    read-served h {u} {y} {k} {v} x g {len} {after} l r {f} c =
-        let scan : record { turn = turnOf (record { session = u; reply = y }) v; taken = k } ≡ scanned s w input =
-        ap₂ (λ (p : Turn) (m : ℕ). record { turn = p; taken = m })
-        (ap₂ turnOf (ap₂ (λ (b : Session) (a : Reply). record { session = b; reply = a }) (x .0) (x .1)) g)
-        (x .2) in
-        does
-        (ap (λ (p : Scan). readServed p room) scan ∙ is-served _ _ s w room (none-refuses w room _ e z (sym read-asked ∙ h)))
-        (does-served (turnOf (record { session = u; reply = y }) v) u k (isClosed (u .place)) room l r
-        (ap (λ (b : Bool). record { refusal = 0; taken = k; length = len; finished = b; session = u }) c))
+  pub read-served : n ≡ 0 → {u : Session} {y : Reply} {k : ℕ} {v : List ℕ}
+      → (u ≡ scanned s w input .turn .out .session) × (y ≡ scanned s w input .turn .out .reply) × (k ≡ scanned s w input .taken)
+      → v ≡ scanned s w input .turn .table
+      → {len : ℕ} {after : List ℕ}
+      → len ≡ lengthOf y room
+      → after ≡ roomAfter y room
+      → {f : Bool}
+      → f ≡ isClosed (u .place)
+      → Does (readDone s w input room) (record { refusal = 0; taken = k; length = len; finished = f; session = u }) v after
+  unfolding readDone readServed
+  read-served z {u} {y} {k} {v} x g {len} {after} l r {f} c =
+      let scan : record { turn = turnOf (record { session = u; reply = y }) v; taken = k } ≡ scanned s w input =
+      ap₂ (λ (p : Turn) (m : ℕ). record { turn = p; taken = m })
+      (ap₂ turnOf (ap₂ (λ (b : Session) (a : Reply). record { session = b; reply = a }) (x .0) (x .1)) g)
+      (x .2) in
+      does
+      (ap (λ (p : Scan). readServed p room) scan ∙ is-served _ _ s w room (sym e ∙ z))
+      (does-served (turnOf (record { session = u; reply = y }) v) u k (isClosed (u .place)) room l r
+      (ap (λ (b : Bool). record { refusal = 0; taken = k; length = len; finished = b; session = u }) c))
 
 -- ---- an end
 
-module _ (s : Session) (w room : List ℕ) {n : ℕ} (e : n ≡ lowest (lentRefusals w room)) where
-  pub end-lent : (n ≡ 0 → ⊥) → {a : Answer} → a ≡ record { refusal = n; taken = 0; length = 0; finished = false; session = s }
+module _ (s : Session) (w room : List ℕ) {n : ℕ} (e : n ≡ lowest (endingRefusals s w room)) where
+  pub end-refused : (n ≡ 0 → ⊥) → {a : Answer} → a ≡ record { refusal = n; taken = 0; length = 0; finished = false; session = s }
       → Does (endDone s w room) a w room
-  unfolding endDone endingRefusals
-  end-lent z r =
-      does (is-refused _ _ s w room (lent-refuses w room (endRefused s (tableOf w .day)) e z) z) (does-refused n s w room r)
+  unfolding endDone
+  end-refused z r = does (is-refused _ _ s w room e z) (does-refused n s w room r)
 
-  module _ (z : n ≡ 0) {day : ℕ} {t : Bool} (d : day ≡ tableOf w .day) (q : t ≡ endRefused s day) where
-    end-asked : t ≡ endRefused s (tableOf w .day)
-    end-asked = q ∙ ap (endRefused s) d
+  module _ (z : n ≡ 0) {x : Stepped} {v : List ℕ} (o : x ≡ lastEnded s w .out) (g : v ≡ lastEnded s w .table) where
+    end-by : endServed (turnOf x v) (fileEnded (x .session) v) room ≡ endDone s w room
+    unfolding endDone
+    end-by =
+        ap (λ (p : Turn). endServed p (fileEnded (p .out .session) (p .table)) room) (ap₂ turnOf o g)
+        ∙ is-served _ _ s w room (sym e ∙ z)
 
-    pub end-session : t ≡ true → {a : Answer} → a ≡ record { refusal = 3; taken = 0; length = 0; finished = false; session = s }
-        → Does (endDone s w room) a w room
-    unfolding endDone endingRefusals
-    end-session h r =
-        does (is-refused _ _ s w room (session-refuses w room _ e z (sym end-asked ∙ h)) (λ k. omega arith)) (does-refused 3 s w room r)
-
-    module _ (h : t ≡ false) {x : Stepped} {v : List ℕ} (o : x ≡ lastEnded s w .out) (g : v ≡ lastEnded s w .table) where
-      end-by : endServed (turnOf x v) (fileEnded (x .session) v) room ≡ endDone s w room
-      unfolding endDone endingRefusals
-      end-by =
-          ap (λ (p : Turn). endServed p (fileEnded (p .out .session) (p .table)) room) (ap₂ turnOf o g)
-          ∙ is-served _ _ s w room (none-refuses w room _ e z (sym end-asked ∙ h))
-
-      -- the last record's end gave a reply
-      module _ (i : x .reply .given ≡ true) {len : ℕ} {after : List ℕ} (l : len ≡ lengthOf (x .reply) room) (r : after ≡ roomAfter (x .reply) room) {due : Bool} (p : due ≡ isDue (x .session .place)) where
-        pub end-awaits : due ≡ true → {u : Session} → u ≡ awaits (x .session) → {a : Answer}
-            → a ≡ record { refusal = 0; taken = 0; length = len; finished = false; session = u }
-            → Does (endDone s w room) a v after
-        unfolding endServed
-        end-awaits k f c =
-            does (sym (picks {A = Done} _ _ _ i ∙ picks {A = Done} _ _ _ (sym p ∙ k)) ∙ end-by)
-            (does-served (turnOf x v) (awaits (x .session)) 0 false room l r
-            (c ∙ ap (λ (b : Session). record { refusal = 0; taken = 0; length = len; finished = false; session = b }) f))
-
-        pub end-last : due ≡ false → {u : Session} → u ≡ finishes (x .session) → {a : Answer}
-            → a ≡ record { refusal = 0; taken = 0; length = len; finished = true; session = u }
-            → Does (endDone s w room) a v after
-        unfolding endServed
-        end-last k f c =
-            does (sym (picks {A = Done} _ _ _ i ∙ skips {A = Done} _ _ _ (sym p ∙ k)) ∙ end-by)
-            (does-served (turnOf x v) (finishes (x .session)) 0 true room l r
-            (c ∙ ap (λ (b : Session). record { refusal = 0; taken = 0; length = len; finished = true; session = b }) f))
-
-      -- it gave none, and the file's end gives what is due
-      pub end-over : x .reply .given ≡ false → {y : Stepped} {b : List ℕ}
-          → y ≡ fileEnded (x .session) v .out
-          → b ≡ fileEnded (x .session) v .table
-          → {len : ℕ} {after : List ℕ}
-          → len ≡ lengthOf (y .reply) room
-          → after ≡ roomAfter (y .reply) room
-          → {u : Session}
-          → u ≡ finishes (y .session)
-          → {a : Answer}
-          → a ≡ record { refusal = 0; taken = 0; length = len; finished = true; session = u }
-          → Does (endDone s w room) a b after
+    -- the last record's end gave a reply
+    module _ (i : x .reply .given ≡ true) {len : ℕ} {after : List ℕ} (l : len ≡ lengthOf (x .reply) room) (r : after ≡ roomAfter (x .reply) room) {due : Bool} (p : due ≡ isDue (x .session .place)) where
+      pub end-awaits : due ≡ true → {u : Session} → u ≡ awaits (x .session) → {a : Answer}
+          → a ≡ record { refusal = 0; taken = 0; length = len; finished = false; session = u }
+          → Does (endDone s w room) a v after
       unfolding endServed
-      end-over i {y} {b} p m {len} l r f c =
-          does
-          (ap (λ (j : Turn). servedBy j (finishes (j .out .session)) 0 true room) (ap₂ turnOf p m)
-          ∙ sym (skips {A = Done} _ _ _ i)
-          ∙ end-by)
-          (does-served (turnOf y b) (finishes (y .session)) 0 true room l r
-          (c ∙ ap (λ (x : Session). record { refusal = 0; taken = 0; length = len; finished = true; session = x }) f))
+      end-awaits k f c =
+          does (sym (picks {A = Done} _ _ _ i ∙ picks {A = Done} _ _ _ (sym p ∙ k)) ∙ end-by)
+          (does-served (turnOf x v) (awaits (x .session)) 0 false room l r
+          (c ∙ ap (λ (b : Session). record { refusal = 0; taken = 0; length = len; finished = false; session = b }) f))
+
+      pub end-last : due ≡ false → {u : Session} → u ≡ finishes (x .session) → {a : Answer}
+          → a ≡ record { refusal = 0; taken = 0; length = len; finished = true; session = u }
+          → Does (endDone s w room) a v after
+      unfolding endServed
+      end-last k f c =
+          does (sym (picks {A = Done} _ _ _ i ∙ skips {A = Done} _ _ _ (sym p ∙ k)) ∙ end-by)
+          (does-served (turnOf x v) (finishes (x .session)) 0 true room l r
+          (c ∙ ap (λ (b : Session). record { refusal = 0; taken = 0; length = len; finished = true; session = b }) f))
+
+    -- it gave none, and the file's end gives what is due
+    pub end-over : x .reply .given ≡ false → {y : Stepped} {b : List ℕ}
+        → y ≡ fileEnded (x .session) v .out
+        → b ≡ fileEnded (x .session) v .table
+        → {len : ℕ} {after : List ℕ}
+        → len ≡ lengthOf (y .reply) room
+        → after ≡ roomAfter (y .reply) room
+        → {u : Session}
+        → u ≡ finishes (y .session)
+        → {a : Answer}
+        → a ≡ record { refusal = 0; taken = 0; length = len; finished = true; session = u }
+        → Does (endDone s w room) a b after
+    unfolding endServed
+    end-over i {y} {b} p m {len} l r f c =
+        does
+        (ap (λ (j : Turn). servedBy j (finishes (j .out .session)) 0 true room) (ap₂ turnOf p m)
+        ∙ sym (skips {A = Done} _ _ _ i)
+        ∙ end-by)
+        (does-served (turnOf y b) (finishes (y .session)) 0 true room l r
+        (c ∙ ap (λ (x : Session). record { refusal = 0; taken = 0; length = len; finished = true; session = x }) f))

@@ -2,13 +2,13 @@
 ghost use mathlib.Core.Path.{_≡_};
 ghost use mathlib.Core.Bool.{true, false};
 ghost use Rattle.conditions.specs.Refusals.{lowest};
-ghost use Rattle.calls.specs.Reading.{openingAnswer, openingGives, openingLeaves, awaits, finishes, roomAfter, lengthOf, readDone, endDone};
+ghost use Rattle.calls.specs.Reading.{openingAnswer, openingGives, openingLeaves, awaits, finishes, roomAfter, lengthOf, readingRefusals, endingRefusals, readDone, endDone};
 ghost use Rattle.reader.specs.Lent.{lentRefusals};
 
 // ---- open
 
 // The number of the lowest refusal of an opening, or 0.
-fn opening_refusal(t: &[u8], o: answers::Opening) -> u32
+pub fn opening_refusal(t: &[u8], o: answers::Opening) -> u32
     ensures { λ r. ⌜ r ≡ openingAnswer (now (t .entry)) o ⌝ }
 {
     if !table::is_table(t) {
@@ -89,19 +89,30 @@ fn lent_refusal(t: &[u8], room: &[u8]) -> u32
     0
 }
 
+// The number of the lowest refusal of a read, or 0.
+pub fn reading_refusal(t: &[u8], s: session::Session, room: &[u8]) -> u32
+    ensures { λ r. ⌜ r ≡ lowest (readingRefusals s (now (t .entry)) (now (room .entry))) ⌝ }
+{
+    let refusal = lent_refusal(t, room);
+    if refusal != 0 {
+        return refusal;
+    }
+    let day = table::day(t);
+    if hearing::is_read_refused(s, day.yymmdd) {
+        return 3;
+    }
+    0
+}
+
 // Takes bytes through the LF that settles a reply, or all of them.
 pub fn read(t: &mut [u8], s: session::Session, input: &[u8], room: &mut [u8]) -> calls::Answer
     ensures { λ r. ⌜ r ≡ readDone s (now (t .entry)) (now (input .entry)) (now (room .entry)) .answer ⌝ }
     ensures { λ _. ⌜ now (t .exit) ≡ readDone s (now (t .entry)) (now (input .entry)) (now (room .entry)) .table ⌝ }
     ensures { λ _. ⌜ now (room .exit) ≡ readDone s (now (t .entry)) (now (input .entry)) (now (room .entry)) .room ⌝ }
 {
-    let refusal = lent_refusal(t, room);
+    let refusal = reading_refusal(t, s, room);
     if refusal != 0 {
         return refused(refusal, s);
-    }
-    let day = table::day(t);
-    if hearing::is_read_refused(s, day.yymmdd) {
-        return refused(3, s);
     }
     let x = scanning::scan(s, t, input);
     let session = x.session;
@@ -152,19 +163,30 @@ fn answered(session: session::Session, length: usize, finished: bool) -> calls::
     }
 }
 
+// The number of the lowest refusal of an end, or 0.
+pub fn ending_refusal(t: &[u8], s: session::Session, room: &[u8]) -> u32
+    ensures { λ r. ⌜ r ≡ lowest (endingRefusals s (now (t .entry)) (now (room .entry))) ⌝ }
+{
+    let refusal = lent_refusal(t, room);
+    if refusal != 0 {
+        return refusal;
+    }
+    let day = table::day(t);
+    if hearing::is_end_refused(s, day.yymmdd) {
+        return 3;
+    }
+    0
+}
+
 // Signals the file's end: at most one reply, and finished with the last or at once.
 pub fn end(t: &mut [u8], s: session::Session, room: &mut [u8]) -> calls::Answer
     ensures { λ r. ⌜ r ≡ endDone s (now (t .entry)) (now (room .entry)) .answer ⌝ }
     ensures { λ _. ⌜ now (t .exit) ≡ endDone s (now (t .entry)) (now (room .entry)) .table ⌝ }
     ensures { λ _. ⌜ now (room .exit) ≡ endDone s (now (t .entry)) (now (room .entry)) .room ⌝ }
 {
-    let refusal = lent_refusal(t, room);
+    let refusal = ending_refusal(t, s, room);
     if refusal != 0 {
         return refused(refusal, s);
-    }
-    let day = table::day(t);
-    if hearing::is_end_refused(s, day.yymmdd) {
-        return refused(3, s);
     }
     let x = scanning::last_ended(s, t);
     let after = x.session;

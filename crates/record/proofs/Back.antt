@@ -66,7 +66,7 @@ customer-back c s =
     let types = ap num (at 1) ∙ num-bytes 2 (c .types) (omega (arith, s .types)) in
     let agreed = ap (λ (x : List ℕ). eqb (num x) 1) (at 2) ∙ flag-read (c .agreed) in
     let leave = ap (λ (x : List ℕ). eqb (num x) 1) (at 3) ∙ flag-read (c .leave) in
-    let days = ap num (at 4) ∙ num-bytes 1 (c .length) (omega (arith, s .days)) in
+    let days = ap num (at 4) ∙ num-bytes 1 (c .length .0) (omega (arith, s .days)) in
     let transport = ap pairOf (at 5) ∙ pair-back (c .transport) (s .transport) in
     let working = ap pairOf (at 6) ∙ pair-back (c .working) (s .working) in
     let count = ap num (at 7) ∙ num-bytes 1 (c .count) (omega (arith, s .count)) in
@@ -77,7 +77,7 @@ customer-back c s =
       types = types i;
       agreed = agreed i;
       leave = leave i;
-      length = days i;
+      length = record { 0 = days i };
       transport = transport i;
       working = working i;
       count = count i;

@@ -68,7 +68,7 @@ customerFields c =
     bytesOf 2 (c .types) ∷
     bytesOf 1 (one (c .agreed)) ∷
     bytesOf 1 (one (c .leave)) ∷
-    bytesOf 1 (c .length) ∷
+    bytesOf 1 (c .length .0) ∷
     pairBytes (c .transport) ∷
     pairBytes (c .working) ∷
     bytesOf 1 (c .count) ∷
@@ -92,7 +92,7 @@ module _ (c : Customer) (n : length (c .who) ≡ 25) (m : length (c .stamps) ≡
         (
           bytesOf-length 1 (one (c .leave)),
           (
-            bytesOf-length 1 (c .length),
+            bytesOf-length 1 (c .length .0),
             (pair-width (c .transport), (pair-width (c .working), (bytesOf-length 1 (c .count), (numbers-width (c .stamps) m, (numbers-width (c .once) q, tt))))),
           ),
         ),

@@ -66,7 +66,7 @@ customerBytes c =
     bytesOf 2 (c .types) ∷
     bytesOf 1 (one (c .agreed)) ∷
     bytesOf 1 (one (c .leave)) ∷
-    bytesOf 1 (c .length) ∷
+    bytesOf 1 (c .length .0) ∷
     pairBytes (c .transport) ∷
     pairBytes (c .working) ∷
     bytesOf 1 (c .count) ∷
@@ -80,7 +80,7 @@ customerOf l =
       types = num (part 25 2 l);
       agreed = eqb (num (part 27 1 l)) 1;
       leave = eqb (num (part 28 1 l)) 1;
-      length = num (part 29 1 l);
+      length = record { 0 = num (part 29 1 l) };
       transport = pairOf (part 30 pairWidth l);
       working = pairOf (part 57 pairWidth l);
       count = num (part 84 1 l);
@@ -139,7 +139,7 @@ pub record Shaped (c : Customer) : Type 0 where
   pub who : length (c .who) ≡ 25
   pub who-bytes : (k : ℕ) → getD (c .who) k 0 < 256
   pub types : c .types < 2 ^ 16
-  pub days : c .length < 256
+  pub days : c .length .0 < 256
   pub transport : ShapedPair (c .transport)
   pub working : ShapedPair (c .working)
   pub count : c .count < 256

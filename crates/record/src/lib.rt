@@ -101,7 +101,7 @@ fn customer_in(t: &[u8], at: usize) -> customer::Customer
         types: splices::read2(t, at + 25),
         agreed: splices::read1(t, at + 27) == 1,
         leave: splices::read1(t, at + 28) == 1,
-        length: splices::read1(t, at + 29),
+        length: calendar::CalendarDays(splices::read1(t, at + 29)),
         transport,
         working,
         count: splices::read1(t, at + 84),
@@ -191,14 +191,21 @@ fn store_pair(t: &mut [u8], at: usize, k: customer::KeyPair)
 }
 
 // Data types, agreement, leave to ask for keys, and the length of a changeover.
-fn store_terms(t: &mut [u8], at: usize, types: u32, agreed: bool, leave: bool, days: u32)
+fn store_terms(
+    t: &mut [u8],
+    at: usize,
+    types: u32,
+    agreed: bool,
+    leave: bool,
+    days: calendar::CalendarDays,
+)
     requires { ⌜ at + 5 ≤ length (now t) ⌝ }
-    ensures { λ _. ⌜ now (t .exit) ≡ splice at (joined (bytesOf 2 types ∷ bytesOf 1 (one agreed) ∷ bytesOf 1 (one leave) ∷ bytesOf 1 days ∷ [])) (now (t .entry)) ⌝ }
+    ensures { λ _. ⌜ now (t .exit) ≡ splice at (joined (bytesOf 2 types ∷ bytesOf 1 (one agreed) ∷ bytesOf 1 (one leave) ∷ bytesOf 1 (days .0) ∷ [])) (now (t .entry)) ⌝ }
 {
     splices::write2(t, at, types);
     splices::write1(t, at + 2, flag(agreed));
     splices::write1(t, at + 3, flag(leave));
-    splices::write1(t, at + 4, days);
+    splices::write1(t, at + 4, days.0);
 }
 
 // The number of stamps, the stamps and their one-time keys.

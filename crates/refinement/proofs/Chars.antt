@@ -17,10 +17,12 @@ use Rattle.text.specs.Characters.{blank, digit, allBlank}
 use Rattle.text.specs.Numbers.{decimal}
 use Rattle.text.specs.Letters.{letters}
 use Rattle.message.specs.Layout.{layoutLength, layout, total}
+use Rattle.message.specs.declared.Extent.{Extent}
+use Rattle.message.specs.declared.Extent.the-variants.{Whole, TooShort, LengthNotDigits, OtherLength}
 use Rattle.message.specs.declared.Kind.{Kind}
 use Rattle.message.specs.declared.Kind.the-variants.{Esi, Suo, Var}
 use Rattle.whole.specs.Records.{cr, withoutCr}
-use Rattle.whole.specs.Messages.{begins, aloneOf, wantsMore, textOf}
+use Rattle.whole.specs.Messages.{begins, headLength, extentOf, wantsMore, textOf}
 
 -- ---- one CR at the end
 
@@ -164,12 +166,14 @@ part-kept : (l : List ℕ) → part 5 3 (take 161 l) ≡ part 5 3 l
 unfolding part
 part-kept l = ap (take 3) (drop-take 5 156 161 l refl) ∙ take-take 3 156 (drop 5 l) (omega arith)
 
-abbrev aloneBy : Kind → Bool → List ℕ → ℕ
-aloneBy kind short p = pick short 1 (pick (fails (all digit p)) 2 (pick (fails (eqb (decimal p) (layoutLength kind))) 3 0))
+abbrev told : Kind → Bool → List ℕ → Extent
+told kind short p =
+    pick short TooShort
+    (pick (fails (all digit p)) LengthNotDigits (pick (fails (eqb (decimal p) (layoutLength kind))) OtherLength Whole))
 
-pub alone-kept : (kind : Kind) (l : List ℕ) → aloneOf kind (take 161 l) ≡ aloneOf kind l
-unfolding aloneOf
-alone-kept kind l = ap₂ (aloneBy kind) (kept-length l 11 (omega arith)) (part-kept l)
+pub extent-kept : (kind : Kind) (l : List ℕ) → extentOf kind (take 161 l) ≡ extentOf kind l
+unfolding extentOf
+extent-kept kind l = ap₂ (told kind) (kept-length l headLength (omega arith)) (part-kept l)
 
 -- blanks past the layout's length are those among the first 161 and those past them
 pub blank-kept : (k : ℕ) (l : List ℕ) → k ≤ 161 → both (allBlank (drop k (take 161 l))) (allBlank (drop 161 l)) ≡ allBlank (drop k l)

@@ -9,6 +9,7 @@ use native.Mathlib.Omega.{arith}
 use lib.ListN.{length}
 use Rattle.ground.specs.Choice.{pick}
 use Rattle.calendar.specs.Dates.{realDate}
+use Rattle.message.specs.declared.Extent.the-variants.{CutShort}
 use Rattle.message.specs.declared.Kind.the-variants.{Esi, Var}
 use Rattle.answers.specs.declared.Opening.{Opening}
 use Rattle.whole.specs.Messages.{begins}
@@ -187,8 +188,8 @@ module _ (o : Opening) (w₀ : List ℕ) (n : ℕ) (d : realDate (o .today .yymm
     finished-at (collectingEsi sofar) s w k =
         at-place s (λ (p : Place). finishedIn p s w) _ (k .situated .0)
         (Messages.esi-done o w₀ n (moved st (collectingEsi sofar)) [] s w k d _ _
-        (Gathers.collected-is (s .gathered) sofar (k .situated .1 ∙ ap gatheredOf (append-nil sofar)) Esi 1 1 refl)
-        (Gathers.collected-long Esi 1 sofar))
+        (Gathers.collected-is (s .gathered) sofar (k .situated .1 ∙ ap gatheredOf (append-nil sofar)) Esi CutShort CutShort refl)
+        (Gathers.collected-long Esi CutShort sofar))
     finished-at (outside told) s w k =
         at-place s (λ (p : Place). finishedIn p s w) _ (k .situated .0)
         (Messages.quiet o w₀ n (moved st (outside told)) s w (s .line) k refl)
@@ -202,8 +203,8 @@ module _ (o : Opening) (w₀ : List ℕ) (n : ℕ) (d : realDate (o .today .yymm
         let few : sizeOf (f .records) < 2 ^ 64 = omega (arith, k .counted) in
         at-place s (λ (p : Place). finishedIn p s w) _ (k .situated .0)
         (Messages.var-done o w₀ n (moved st (collectingVar sofar f)) [] s w k d _ _
-        (Gathers.collected-is (s .gathered) sofar (k .situated .1 ∙ ap gatheredOf (append-nil sofar)) Var 1 1 refl)
-        (Gathers.collected-long Var 1 sofar)
+        (Gathers.collected-is (s .gathered) sofar (k .situated .1 ∙ ap gatheredOf (append-nil sofar)) Var CutShort CutShort refl)
+        (Gathers.collected-long Var CutShort sofar)
         f (k .situated .3) (k .situated .4) few)
     finished-at closed s w k =
         at-place s (λ (p : Place). finishedIn p s w) _ (k .situated)

@@ -8,6 +8,7 @@ use native.Mathlib.Omega.{arith}
 use lib.ListN.{length, length-append, length-map}
 use Rattle.ground.specs.Choice.{pick}
 use Rattle.text.specs.Characters.{internal}
+use Rattle.text.proofs.Lists.{picked}
 use Rattle.des.specs.Des.{enciphered}
 use Rattle.des.proofs.Inverse.{deciphered-lt}
 use Rattle.digest.specs.Kept.{stripped, keptOf, kept}
@@ -20,11 +21,11 @@ use Rattle.digest.proofs.Folds.{took-append}
 use Rattle.digest.proofs.Batches.{batch-is}
 use Rattle.changeover.specs.declared.Key.{Key}
 use Rattle.changeover.specs.declared.Key.the-variants.{Missing, Is}
-use Rattle.table.specs.Table.{Table}
-use Rattle.message.specs.Fields.{methodOf}
+use Rattle.table.specs.Table.{Table, placeOf}
+use Rattle.message.specs.Fields.{senderOf, methodOf}
 use Rattle.checks.specs.Checks.{keyOr0}
-use Rattle.checks.specs.declared.Collected.{Collected}
-use Rattle.whole.specs.Messages.{oneTime, oneTimeOf}
+use Rattle.message.specs.declared.Collected.{Collected}
+use Rattle.whole.specs.Messages.{oneTime, transportHeld, oneTimeOf, onceOf}
 use Rattle.whole.specs.WholeFile.{Opened, withRecord, frameOf}
 use Rattle.session.specs.Events.{batchWith, isData, cipherOf, frameBy}
 use Rattle.session.specs.declared.Place.the-variants.{InData}
@@ -129,6 +130,9 @@ unfolding oneTime keyOr0
 once-lt Missing suo = omega arith
 once-lt (Is transport) suo = deciphered-lt transport _
 
-pub one-time-lt : (t : Table) (suo : List ℕ) → keyOr0 (oneTimeOf t suo) < 2 ^ 64
-unfolding oneTimeOf
-one-time-lt t suo = once-lt _ suo
+pub once-of-lt : (t : Table) (m : Collected) → keyOr0 (onceOf t m) < 2 ^ 64
+unfolding onceOf oneTimeOf keyOr0
+once-of-lt t m =
+    picked (λ (k : Key). keyOr0 k < 2 ^ 64) _ _ _
+    (λ e. once-lt (transportHeld t (placeOf t (senderOf (m .text))) (m .text)) (m .text))
+    (λ e. omega arith)

@@ -15,9 +15,10 @@ use Rattle.ground.specs.Lists.{all}
 use Rattle.ground.proofs.Choices.{picks, skips}
 use Rattle.text.specs.Characters.{blank, allBlank}
 use Rattle.message.specs.Layout.{layoutLength}
+use Rattle.message.specs.declared.Extent.{Extent}
 use Rattle.message.specs.declared.Kind.{Kind}
-use Rattle.checks.specs.declared.Collected.{Collected}
-use Rattle.whole.specs.Messages.{begins, aloneOf, wantsMore, textOf, collectedAs}
+use Rattle.message.specs.declared.Collected.{Collected}
+use Rattle.whole.specs.Messages.{begins, extentOf, wantsMore, textOf, collectedAs}
 use Rattle.session.specs.Events.{gatheredWith, gatheredAll, nothing, held, collectedBy}
 use Rattle.session.specs.declared.Gathered.{Gathered}
 use Rattle.refinement.specs.Stands.{gatheredOf}
@@ -95,8 +96,8 @@ module _ (g : Gathered) (l : List ℕ) (e : g ≡ gatheredOf l) where
   pub wants-is : (kind : Kind) → wantsMore kind (held g) ≡ wantsMore kind l
   wants-is kind = ap (wantsMore kind) held-is ∙ Chars.wants-kept kind l
 
-  pub alone-is : (kind : Kind) → aloneOf kind (held g) ≡ aloneOf kind l
-  alone-is kind = ap (aloneOf kind) held-is ∙ Chars.alone-kept kind l
+  pub extent-is : (kind : Kind) → extentOf kind (held g) ≡ extentOf kind l
+  extent-is kind = ap (extentOf kind) held-is ∙ Chars.extent-kept kind l
 
   blank-is : (kind : Kind) → both (allBlank (drop (layoutLength kind) (held g))) (g .blank) ≡ allBlank (drop (layoutLength kind) l)
   unfolding gatheredOf
@@ -112,14 +113,14 @@ module _ (g : Gathered) (l : List ℕ) (e : g ≡ gatheredOf l) where
   unfolding gatheredOf
   count-is = ap (λ (x : Gathered). x .count) e
 
-  pub collected-is : (kind : Kind) (a b : ℕ) → a ≡ b → collectedBy kind a g ≡ collectedAs kind b l
+  pub collected-is : (kind : Kind) (a b : Extent) → a ≡ b → collectedBy kind a g ≡ collectedAs kind b l
   unfolding collectedBy collectedAs
   collected-is kind a b p = collected-eq p (blank-is kind) text-is
     where
-      collected-eq : {a b : ℕ} {x y : Bool} {t u : List ℕ} → a ≡ b → x ≡ y → t ≡ u
-          → _≡_ {A = Collected} (record { alone = a; blank = x; text = t }) (record { alone = b; blank = y; text = u })
+      collected-eq : {a b : Extent} {x y : Bool} {t u : List ℕ} → a ≡ b → x ≡ y → t ≡ u
+          → _≡_ {A = Collected} (record { extent = a; blank = x; text = t }) (record { extent = b; blank = y; text = u })
       collected-eq p q r = rw (p, q, r)
 
-pub collected-long : (kind : Kind) (a : ℕ) (l : List ℕ) → length (collectedAs kind a l .text) ≡ 161
+pub collected-long : (kind : Kind) (a : Extent) (l : List ℕ) → length (collectedAs kind a l .text) ≡ 161
 unfolding collectedAs
 collected-long kind a l = Chars.text-length l

@@ -13,18 +13,20 @@ use Rattle.digest.specs.Running.{begun, alike}
 use Rattle.table.specs.Table.{Table}
 use Rattle.table.specs.Decode.{tableOf}
 use Rattle.message.specs.Fields.{senderOf}
+use Rattle.message.specs.declared.Extent.{Extent}
+use Rattle.message.specs.declared.Extent.the-variants.{Whole}
 use Rattle.message.specs.declared.Kind.{Kind}
 use Rattle.message.specs.declared.Kind.the-variants.{Esi, Suo, Var}
 use Rattle.verdict.specs.Outcomes.{esiOutcome, esiTable, esiLeaves, frameOutcome, frameTable, frameLeaves}
-use Rattle.checks.specs.declared.Collected.{Collected}
+use Rattle.message.specs.declared.Collected.{Collected}
 use Rattle.verdict.specs.declared.Outcome.{Outcome}
 use Rattle.notice.specs.Codes.{codeIn, codes}
 use Rattle.reply.specs.declared.Answering.{Answering}
 use Rattle.answers.specs.Answers.{bareAnswer, verdictAnswer}
 use Rattle.answers.specs.declared.Opening.{Opening}
-use Rattle.whole.specs.Messages.{aloneOf, wantsMore, collectedAs, oneTimeOf}
+use Rattle.whole.specs.Messages.{extentOf, isWhole, wantsMore, collectedAs, onceOf}
 use Rattle.whole.specs.WholeFile.{Opened, Situation, collectingEsi, collectingSuo, collectingVar, closed, Standing, Step, moved, silent as stays, replies as tells, esiSays, pteSays, occasion, afterEsi, esiEnds, suoEnds, frameOf, varEnds, esiGoesOn, suoGoesOn, varGoesOn, esiStarts, suoStarts, varStarts}
-use Rattle.session.specs.Events.{Turn, silent, replies, placed, withBatch, judged, shut, bareTurn, nothing, held, collectedBy, placeAfterEsi, esiDone, suoDone, frameBy, varDone, keepsOn, esiOn, suoOn, varOn, aloneBy, esiStart, suoStart, varStart}
+use Rattle.session.specs.Events.{Turn, silent, replies, placed, withBatch, judged, shut, bareTurn, nothing, held, collectedBy, placeAfterEsi, esiDone, suoDone, frameBy, varDone, keepsOn, esiOn, suoOn, varOn, extentBy, esiStart, suoStart, varStart}
 use Rattle.session.specs.Told.{saidBy}
 use Rattle.session.specs.declared.Line.{Line}
 use Rattle.session.specs.declared.Batch.{Batch}
@@ -144,14 +146,14 @@ module _ (o : Opening) (w₀ : List ℕ) (n : ℕ) where
       pub suo-done : Answers o w₀ n (s .line) (suoEnds st m) (silent (suoDone s w c) w)
       unfolding suoEnds suoDone moved placed withBatch digested sizeOf
       suo-done =
-          let once : oneTimeOf (tableOf w) (c .text) ≡ oneTimeOf (st .table) (m .text) = rw (k .table .says, e) in
+          let once : onceOf (tableOf w) c ≡ onceOf (st .table) m = ap₂ onceOf (k .table .says) e in
           quiet _ _ w (s .line)
           (carries _ (suoDone s w c) refl refl refl (omega arith) (
             refl,
             Gathers.gathered-none,
-            ap (λ (x : Collected). record { suo = x; once = oneTimeOf (tableOf w) (c .text); running = alike begun }) e
+            ap (λ (x : Collected). record { suo = x; once = onceOf (tableOf w) c; running = alike begun }) e
                 ∙ Frames.batch-begun m _ _ once,
-            record { suo-long = long; key-fits = Frames.one-time-lt (st .table) (m .text) },
+            record { suo-long = long; key-fits = Frames.once-of-lt (st .table) m },
           ))
           refl
 
@@ -204,42 +206,42 @@ module _ (o : Opening) (w₀ : List ℕ) (n : ℕ) where
       keeps-line kind = refl
 
       -- what a kind collects is the characters
-      collected : (kind : Kind) (a b : ℕ) → a ≡ b → collectedBy kind a (s .gathered) ≡ collectedAs kind b l
+      collected : (kind : Kind) (a b : Extent) → a ≡ b → collectedBy kind a (s .gathered) ≡ collectedAs kind b l
       collected kind a b p = Gathers.collected-is (s .gathered) l g kind a b p
 
       wants : (kind : Kind) → wantsMore kind (held (s .gathered)) ≡ wantsMore kind l
       wants kind = Gathers.wants-is (s .gathered) l g kind
 
-      alone : (kind : Kind) → aloneBy kind s ≡ aloneOf kind l
-      unfolding aloneBy
-      alone kind = Gathers.alone-is (s .gathered) l g kind
+      extent : (kind : Kind) → extentBy kind s ≡ extentOf kind l
+      unfolding extentBy
+      extent kind = Gathers.extent-is (s .gathered) l g kind
 
-      first : (kind : Kind) → eqb (aloneBy kind s) 0 ≡ eqb (aloneOf kind l) 0
-      first kind = ap (λ (a : ℕ). eqb a 0) (alone kind)
+      first : (kind : Kind) → isWhole (extentBy kind s) ≡ isWhole (extentOf kind l)
+      first kind = ap isWhole (extent kind)
 
       pub esi-on : Answers o w₀ n (s .line) (esiGoesOn o st l) (esiOn s w)
       unfolding esiGoesOn esiOn
       esi-on =
           by-test (s .line) (λ (y : Turn). y) _ _ _ _ _ _ (wants Esi) (λ t. quiet _ _ w (s .line) (keeps-esi t) (keeps-line Esi))
-          (λ t. esi-done d _ _ (collected Esi 0 0 refl) (Gathers.collected-long Esi 0 l))
+          (λ t. esi-done d _ _ (collected Esi Whole Whole refl) (Gathers.collected-long Esi Whole l))
 
       pub esi-starts : Answers o w₀ n (s .line) (esiStarts o st l) (esiStart s w)
       unfolding esiStarts esiStart
       esi-starts =
           by-test (s .line) (λ (y : Turn). y) _ _ _ _ _ _ (first Esi) (λ t. esi-on)
-          (λ t. esi-done d _ _ (collected Esi _ _ (alone Esi)) (Gathers.collected-long Esi _ l))
+          (λ t. esi-done d _ _ (collected Esi _ _ (extent Esi)) (Gathers.collected-long Esi _ l))
 
       pub suo-on : Answers o w₀ n (s .line) (suoGoesOn st l) (silent (suoOn s w) w)
       unfolding suoGoesOn suoOn
       suo-on =
           by-test (s .line) (λ (y : Session). silent y w) _ _ _ _ _ _ (wants Suo) (λ t. quiet _ _ w (s .line) (keeps-suo t) (keeps-line Suo))
-          (λ t. suo-done d _ _ (collected Suo 0 0 refl) (Gathers.collected-long Suo 0 l))
+          (λ t. suo-done d _ _ (collected Suo Whole Whole refl) (Gathers.collected-long Suo Whole l))
 
       pub suo-starts : Answers o w₀ n (s .line) (suoStarts st l) (silent (suoStart s w) w)
       unfolding suoStarts suoStart
       suo-starts =
           by-test (s .line) (λ (y : Session). silent y w) _ _ _ _ _ _ (first Suo) (λ t. suo-on)
-          (λ t. suo-done d _ _ (collected Suo _ _ (alone Suo)) (Gathers.collected-long Suo _ l))
+          (λ t. suo-done d _ _ (collected Suo _ _ (extent Suo)) (Gathers.collected-long Suo _ l))
 
       module _ (f : Opened) (kept : Kept f (s .batch)) (fits : FrameFits f) (few : sizeOf (f .records) ≤ n) (small : n < 2 ^ 64) where
         keeps-var : wantsMore Var l ≡ true → Hears o w₀ n (moved st (collectingVar l f)) [] (keepsOn s Var) w
@@ -250,10 +252,10 @@ module _ (o : Opening) (w₀ : List ℕ) (n : ℕ) where
         unfolding varGoesOn varOn
         var-on =
             by-test (s .line) (λ (y : Turn). y) _ _ _ _ _ _ (wants Var) (λ t. quiet _ _ w (s .line) (keeps-var t) (keeps-line Var))
-            (λ t. var-done d _ _ (collected Var 0 0 refl) (Gathers.collected-long Var 0 l) f kept fits (omega arith))
+            (λ t. var-done d _ _ (collected Var Whole Whole refl) (Gathers.collected-long Var Whole l) f kept fits (omega arith))
 
         pub var-starts : Answers o w₀ n (s .line) (varStarts o st f l) (varStart s w)
         unfolding varStarts varStart
         var-starts =
             by-test (s .line) (λ (y : Turn). y) _ _ _ _ _ _ (first Var) (λ t. var-on)
-            (λ t. var-done d _ _ (collected Var _ _ (alone Var)) (Gathers.collected-long Var _ l) f kept fits (omega arith))
+            (λ t. var-done d _ _ (collected Var _ _ (extent Var)) (Gathers.collected-long Var _ l) f kept fits (omega arith))

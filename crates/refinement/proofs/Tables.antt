@@ -21,7 +21,7 @@ use Rattle.message.specs.declared.Fault.{Fault}
 use Rattle.message.specs.declared.Fault.the-variants.{Sound, Found as FaultFound}
 use Rattle.checks.specs.Checks.{keyOr0}
 use Rattle.verdict.specs.Outcomes.{tableAfter, tableBy, esiTable, frameTable, esiLeaves, frameLeaves}
-use Rattle.checks.specs.declared.Collected.{Collected}
+use Rattle.message.specs.declared.Collected.{Collected}
 use Rattle.checks.specs.declared.Frame.{Frame}
 use Rattle.checks.specs.declared.Occasion.{Occasion}
 use Rattle.verdict.proofs.Leaves.{esi-leaves-table, frame-leaves-table}
@@ -52,7 +52,7 @@ sized-after t o m closing once = sized-seed t _ _ (sized-at t _ _)
 sized-by : (f : Fault) (t u : Table) → Sized t u → Sized t (tableBy f t u)
 unfolding tableBy
 sized-by Sound t u k = k
-sized-by (FaultFound c n) t u k = sized-same t
+sized-by (FaultFound c n a) t u k = sized-same t
 
 sized-esi : (t : Table) (o : Occasion) (m : Collected) → Sized t (esiTable t o m)
 unfolding esiTable

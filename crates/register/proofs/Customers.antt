@@ -15,6 +15,7 @@ use Rattle.customer.specs.Settings.{soundWho}
 use Rattle.customer.specs.declared.Previous.the-variants.{Nothing}
 use Rattle.customer.specs.declared.KeyPair.{KeyPair}
 use Rattle.customer.specs.declared.Customer.{Customer}
+use Rattle.calendar.specs.declared.CalendarDays.{CalendarDays}
 use Rattle.changeover.specs.Changes.{changed, withKeys, withTransport, withWorking}
 use Rattle.table.specs.Table.{word, previousFits, pairFits, customerFits}
 use Rattle.conditions.specs.Length.{lengthOf}
@@ -40,8 +41,8 @@ new-fits a n =
     (join _ _ no-keys
     (join _ _ (join _ _ (lt-ltb _ _ (combined-lt (a .part1) (a .part2))) refl) (join _ _ (lt-ltb _ _ (working-key-0-lt _)) refl)))))
 
-pub new-sound : (a : Adding) → soundWho (a .who) ≡ true → a .generation ≤ 9 → a .types < 2 ^ 16 → between 1 60 (lengthOf (a .length)) ≡ true
-    → soundCustomer (newCustomer a) ≡ true
+pub new-sound : (a : Adding) → soundWho (a .who) ≡ true → a .generation ≤ 9 → a .types < 2 ^ 16
+    → between 1 60 (lengthOf (a .length) .0) ≡ true → soundCustomer (newCustomer a) ≡ true
 unfolding soundCustomer newCustomer soundKeys soundPrevious
 new-sound a w g y d =
     join _ _ w
@@ -51,7 +52,7 @@ new-sound a w g y d =
     (join _ _ (join _ _ refl (join _ _ (working-key-0-odd _) refl)) (join _ _ refl no-stamps)))))
 
 -- from its numbers as code computes them
-abbrev pub newBy : Adding → ℕ → ℕ → ℕ → Customer
+abbrev pub newBy : Adding → CalendarDays → ℕ → ℕ → Customer
 newBy a days key first =
     record {
       who = a .who;
@@ -66,16 +67,17 @@ newBy a days key first =
       once = replicate 64 0;
     }
 
-pub new-by : (a : Adding) (days key first : ℕ) → days ≡ lengthOf (a .length) → key ≡ combined (a .part1) (a .part2) → first ≡ workingKey0 key
-    → newBy a days key first ≡ newCustomer a
+pub new-by : (a : Adding) (days : CalendarDays) (key first : ℕ) → days ≡ lengthOf (a .length)
+    → key ≡ combined (a .part1) (a .part2) → first ≡ workingKey0 key → newBy a days key first ≡ newCustomer a
 unfolding newCustomer
 new-by a days key first e f g =
     ap (newBy a days key) g
-    ∙ ap₂ (λ (d k : ℕ). newBy a d k (workingKey0 k)) e f
+    ∙ ap₂ (λ (d : CalendarDays) (k : ℕ). newBy a d k (workingKey0 k)) e f
 
 -- ---- one with a changed key
 
-changed-fits : (old : KeyPair) (generation key today days : ℕ) → pairFits old ≡ true → key < 2 ^ 64 → pairFits (changed old generation key today days) ≡ true
+changed-fits : (old : KeyPair) (generation key today : ℕ) (days : CalendarDays) → pairFits old ≡ true → key < 2 ^ 64
+    → pairFits (changed old generation key today days) ≡ true
 unfolding changed previousFits
 changed-fits old generation key today days f k = join _ _ (lt-ltb _ _ k) (left _ _ f)
 

@@ -10,7 +10,7 @@ use lib.Dec.{eqb}
 use lib.ListN.{length}
 use Rattle.ground.specs.Choice.{both, either, fails, one, between}
 use Rattle.ground.specs.Lists.{all}
-use Rattle.ground.proofs.Choices.{join, between-in}
+use Rattle.ground.proofs.Choices.{join, between-in, fails-false}
 use Rattle.calendar.specs.Dates.{leap, daysIn, realDate, earlier}
 use Rattle.keys.specs.Keys.{combined, nextGeneration}
 use Rattle.keys.specs.Maker.{keyOf, nextSeed}
@@ -41,7 +41,7 @@ use Rattle.register.specs.declared.Setting.{Setting}
 use Rattle.register.specs.declared.Adding.{Adding}
 use Rattle.register.specs.declared.Entering.{Entering}
 use Rattle.register.specs.declared.Ordering.{Ordering}
-use Rattle.conditions.proofs.Refused.{served, neither, fails-false, Open, opened}
+use Rattle.conditions.proofs.Refused.{served, neither, Open, opened}
 use Rattle.register.proofs.Rewritten
 use Rattle.register.proofs.Rewritten.{served-leaves, day-after, seed-after}
 use Rattle.register.proofs.Customers
@@ -131,9 +131,9 @@ pub record AddingServed (b : List ℕ) (a : Adding) : Type 0 where
   pub who : soundWho (a .who) ≡ true
   pub generation : a .generation ≤ 9
   pub types : a .types < 2 ^ 16
-  pub days : between 1 60 (lengthOf (a .length)) ≡ true
+  pub days : between 1 60 (lengthOf (a .length) .0) ≡ true
 
-good-length : (l : Length) → badLength l ≡ false → between 1 60 (lengthOf l) ≡ true
+good-length : (l : Length) → badLength l ≡ false → between 1 60 (lengthOf l .0) ≡ true
 unfolding badLength lengthOf
 good-length (Given n) e = fails-false _ e
 good-length LeftOut e = thirty

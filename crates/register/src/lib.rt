@@ -41,7 +41,7 @@ pub struct Ordering {
 // ---- set up a table
 
 // The number of the refusal, 0 for none.
-fn setting_up_refusal(t: &[u8], s: Setting, holidays: &[u32]) -> u32
+pub fn setting_up_refusal(t: &[u8], s: Setting, holidays: &[u32]) -> u32
     ensures { λ r. ⌜ r ≡ settingUpAnswer (now (t .entry)) s (now (holidays .entry)) ⌝ }
 {
     if !conditions::are_real(holidays) {
@@ -98,7 +98,7 @@ pub fn set_up(t: &mut [u8], s: Setting, holidays: &[u32]) -> u32
 // ---- add a customer
 
 // The number of the refusal, 0 for none.
-fn adding_refusal(t: &[u8], a: Adding) -> u32
+pub fn adding_refusal(t: &[u8], a: Adding) -> u32
     ensures { λ r. ⌜ r ≡ addingAnswer (now (t .entry)) a ⌝ }
 {
     if !table::is_table(t) {
@@ -188,7 +188,7 @@ pub fn add(t: &mut [u8], a: Adding) -> u32
 // ---- enter a transport key
 
 // The number of the refusal, 0 for none.
-fn entering_refusal(t: &[u8], e: Entering) -> u32
+pub fn entering_refusal(t: &[u8], e: Entering) -> u32
     ensures { λ r. ⌜ r ≡ enteringAnswer (now (t .entry)) e ⌝ }
 {
     if !table::is_table(t) {
@@ -244,7 +244,7 @@ pub fn enter(t: &mut [u8], e: Entering) -> u32
 // ---- order a new working key
 
 // The number of the refusal, 0 for none.
-fn ordering_refusal(t: &[u8], o: Ordering) -> u32
+pub fn ordering_refusal(t: &[u8], o: Ordering) -> u32
     ensures { λ r. ⌜ r ≡ orderingAnswer (now (t .entry)) o ⌝ }
 {
     if !table::is_table(t) {

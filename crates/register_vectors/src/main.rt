@@ -1,4 +1,5 @@
 // The calls that keep a table: each refusal, each pair that competes, appendix 3's customer, and changeovers. One labelled line each.
+use calendar::CalendarDays;
 use conditions::Length;
 use libc::STDOUT_FILENO;
 use register::Adding;
@@ -147,7 +148,7 @@ fn show(t: &[u8], i: usize) {
     let transport = c.transport;
     let working = c.working;
     say_number(b"  day", table::day(t).yymmdd as u64);
-    say_number(b"  length", c.length as u64);
+    say_number(b"  length", c.length.0 as u64);
     say_number(b"  transport generation", transport.generation as u64);
     say_key(b"  transport key", transport.key);
     let before = transport.previous;
@@ -269,13 +270,13 @@ fn lengths(t: &mut [u8]) {
     let w = other(b'L', b'A');
     answer(
         b"add, length 0, 11",
-        register::add(t, adding_for(w, 991201, Length::Given(0))),
+        register::add(t, adding_for(w, 991201, Length::Given(CalendarDays(0)))),
     );
     answer(
         b"add, length 61, 11",
-        register::add(t, adding_for(w, 991201, Length::Given(61))),
+        register::add(t, adding_for(w, 991201, Length::Given(CalendarDays(61)))),
     );
-    let mut c = adding_for(w, 991201, Length::Given(60));
+    let mut c = adding_for(w, 991201, Length::Given(CalendarDays(60)));
     c.generation = 9;
     answer(b"add, length 60 and generation 9, 0", register::add(t, c));
 }

@@ -11,20 +11,21 @@ use Rattle.des.specs.Des.{enciphered}
 use Rattle.digest.specs.Running.{begun, alike, tookBytes, ended, answered}
 use Rattle.changeover.specs.declared.Key.the-variants.{Missing}
 use Rattle.table.specs.Decode.{tableOf}
-use Rattle.message.specs.Layout.{layoutLength}
 use Rattle.message.specs.Fields.{senderOf, methodOf}
+use Rattle.message.specs.declared.Extent.{Extent}
+use Rattle.message.specs.declared.Extent.the-variants.{Whole, CutShort}
 use Rattle.message.specs.declared.Kind.{Kind}
 use Rattle.message.specs.declared.Kind.the-variants.{Esi, Suo, Var}
 use Rattle.checks.specs.Checks.{keyOr0}
 use Rattle.verdict.specs.Outcomes.{esiOutcome, esiLeaves, frameOutcome, frameLeaves}
-use Rattle.checks.specs.declared.Collected.{Collected}
+use Rattle.message.specs.declared.Collected.{Collected}
 use Rattle.checks.specs.declared.Frame.{Frame}
 use Rattle.checks.specs.declared.Occasion.{Occasion}
 use Rattle.verdict.specs.declared.Outcome.{Outcome}
 use Rattle.notice.specs.Codes.{codeIn, codes}
 use Rattle.reply.specs.declared.Answering.{Answering}
 use Rattle.answers.specs.Answers.{bareAnswer, verdictAnswer}
-use Rattle.whole.specs.Messages.{begins, aloneOf, wantsMore, oneTimeOf}
+use Rattle.whole.specs.Messages.{begins, extentOf, isWhole, wantedLength, wantsMore, onceOf}
 use Rattle.whole.specs.WholeFile.{occasion}
 use Rattle.session.specs.declared.Line.{Line}
 use Rattle.session.specs.declared.Place.{Place}
@@ -37,10 +38,14 @@ use Rattle.session.specs.declared.Stepped.{Stepped}
 
 -- ---- characters
 
--- the record or message on its way with one character more: 161 are kept, of those past them only whether all were blank
+-- the characters of a record or message on its way that a session has room for
+abbrev pub keptRoom : ℕ
+keptRoom = 161
+
+-- the record or message on its way with one character more: as many are kept, of those past them only whether all were blank
 unfoldable pub gatheredWith : Gathered → ℕ → Gathered
 gatheredWith g c =
-    pick (ltb (g .count) 161) (record { count = g .count + 1; blank = g .blank; text = set (g .text) (g .count) c })
+    pick (ltb (g .count) keptRoom) (record { count = g .count + 1; blank = g .blank; text = set (g .text) (g .count) c })
     (record { count = g .count; blank = both (g .blank) (eqb c blank); text = g .text })
 
 unfoldable pub gatheredAll : Gathered → List ℕ → Gathered
@@ -117,7 +122,7 @@ replies a s w = record { out = record { session = s; reply = record { given = tr
 
 -- nothing on its way
 unfoldable pub nothing : Gathered
-nothing = record { count = 0; blank = true; text = replicate 161 0 }
+nothing = record { count = 0; blank = true; text = replicate keptRoom 0 }
 
 -- another place, with 1023 given or not, and what is gathered
 unfoldable pub placed : Session → Place → Bool → Gathered → Session
@@ -179,9 +184,9 @@ bareTurn s w pte code field after = replies (bareAnswer (tableOf w) (s .opening)
 unfoldable pub held : Gathered → List ℕ
 held g = take (g .count) (g .text)
 
-unfoldable pub collectedBy : Kind → ℕ → Gathered → Collected
-collectedBy kind alone g =
-    record { alone = alone; blank = both (allBlank (drop (layoutLength kind) (held g))) (g .blank); text = g .text }
+unfoldable pub collectedBy : Kind → Extent → Gathered → Collected
+collectedBy kind extent g =
+    record { extent = extent; blank = both (allBlank (drop (wantedLength kind) (held g))) (g .blank); text = g .text }
 
 unfoldable pub placeAfterEsi : Bool → Place
 placeAfterEsi true = Outside
@@ -199,7 +204,7 @@ esiDone s w m =
 unfoldable pub suoDone : Session → List ℕ → Collected → Session
 suoDone s w m =
     withBatch (placed s InData (s .told) nothing)
-    (record { suo = m; once = oneTimeOf (tableOf w) (m .text); running = alike begun })
+    (record { suo = m; once = onceOf (tableOf w) m; running = alike begun })
 
 -- the frame, with the digest of the records before the VAR
 unfoldable pub frameBy : Session → Collected → Frame
@@ -227,32 +232,32 @@ keepsOn s kind = placed s (Collecting kind) (s .told) (s .gathered)
 
 unfoldable pub esiOn : Session → List ℕ → Turn
 esiOn s w =
-    pick (wantsMore Esi (held (s .gathered))) (silent (keepsOn s Esi) w) (esiDone s w (collectedBy Esi 0 (s .gathered)))
+    pick (wantsMore Esi (held (s .gathered))) (silent (keepsOn s Esi) w) (esiDone s w (collectedBy Esi Whole (s .gathered)))
 
 unfoldable pub suoOn : Session → List ℕ → Session
 suoOn s w =
-    pick (wantsMore Suo (held (s .gathered))) (keepsOn s Suo) (suoDone s w (collectedBy Suo 0 (s .gathered)))
+    pick (wantsMore Suo (held (s .gathered))) (keepsOn s Suo) (suoDone s w (collectedBy Suo Whole (s .gathered)))
 
 unfoldable pub varOn : Session → List ℕ → Turn
 varOn s w =
-    pick (wantsMore Var (held (s .gathered))) (silent (keepsOn s Var) w) (varDone s w (collectedBy Var 0 (s .gathered)))
+    pick (wantsMore Var (held (s .gathered))) (silent (keepsOn s Var) w) (varDone s w (collectedBy Var Whole (s .gathered)))
 
 -- ---- a message's first record
 
-unfoldable pub aloneBy : Kind → Session → ℕ
-aloneBy kind s = aloneOf kind (held (s .gathered))
+unfoldable pub extentBy : Kind → Session → Extent
+extentBy kind s = extentOf kind (held (s .gathered))
 
 unfoldable pub esiStart : Session → List ℕ → Turn
 esiStart s w =
-    pick (eqb (aloneBy Esi s) 0) (esiOn s w) (esiDone s w (collectedBy Esi (aloneBy Esi s) (s .gathered)))
+    pick (isWhole (extentBy Esi s)) (esiOn s w) (esiDone s w (collectedBy Esi (extentBy Esi s) (s .gathered)))
 
 unfoldable pub suoStart : Session → List ℕ → Session
 suoStart s w =
-    pick (eqb (aloneBy Suo s) 0) (suoOn s w) (suoDone s w (collectedBy Suo (aloneBy Suo s) (s .gathered)))
+    pick (isWhole (extentBy Suo s)) (suoOn s w) (suoDone s w (collectedBy Suo (extentBy Suo s) (s .gathered)))
 
 unfoldable pub varStart : Session → List ℕ → Turn
 varStart s w =
-    pick (eqb (aloneBy Var s) 0) (varOn s w) (varDone s w (collectedBy Var (aloneBy Var s) (s .gathered)))
+    pick (isWhole (extentBy Var s)) (varOn s w) (varDone s w (collectedBy Var (extentBy Var s) (s .gathered)))
 
 -- ---- a record's end
 
@@ -317,9 +322,9 @@ passed s w = passedIn (s .place) s w
 -- ---- the file's end
 
 unfoldable pub cutShort : Kind → Session → List ℕ → Turn
-cutShort Esi s w = esiDone s w (collectedBy Esi 1 (s .gathered))
+cutShort Esi s w = esiDone s w (collectedBy Esi CutShort (s .gathered))
 cutShort Suo s w = bareTurn s w true 1032 0 (shut s)
-cutShort Var s w = varDone s w (collectedBy Var 1 (s .gathered))
+cutShort Var s w = varDone s w (collectedBy Var CutShort (s .gathered))
 
 unfoldable pub finishedIn : Place → Session → List ℕ → Turn
 finishedIn BeforeEsi s w = silent s w

@@ -8,8 +8,10 @@ use lib.ListN.{replicate}
 use Rattle.ground.specs.Choice.{either, pick}
 use Rattle.digest.specs.Running.{begun, alike}
 use Rattle.changeover.specs.declared.Key.the-variants.{Missing}
+use Rattle.message.specs.declared.Extent.the-variants.{Whole}
 use Rattle.reply.specs.declared.Answering.{Answering}
 use Rattle.answers.specs.declared.Opening.{Opening}
+use Rattle.whole.specs.Messages.{textRoom}
 use Rattle.session.specs.Lines.{Event, characters, recordEnds, sizePassed, waited, eventOf, lineAfter, lineEnded}
 use Rattle.session.specs.Events.{Turn, silent, noReply, nothing, heard, recordEnded, passed, fileEnded}
 use Rattle.session.specs.declared.Line.{Line}
@@ -85,20 +87,20 @@ opened o =
       gathered = nothing;
       batch =
           record {
-            suo = record { alone = 0; blank = false; text = replicate 161 0 };
+            suo = record { extent = Whole; blank = false; text = replicate textRoom 0 };
             once = Missing;
             running = alike begun;
           };
     }
 
--- no file: what a refused opening hands back
+-- no file: what a refused opening hands back, with every number in its range
 unfoldable pub unopened : Session
 unopened =
     record {
       opened = false;
       ended = false;
       told = false;
-      opening = record { today = record { yymmdd = 0 }; time = 0; kind = 0; clock = 0 };
+      opening = record { today = record { yymmdd = 800101 }; time = 0; kind = 1; clock = 0 };
       made = 0;
       sender = replicate 25 0;
       line = record { size = 0; cr = false };
@@ -106,7 +108,7 @@ unopened =
       gathered = nothing;
       batch =
           record {
-            suo = record { alone = 0; blank = false; text = replicate 161 0 };
+            suo = record { extent = Whole; blank = false; text = replicate textRoom 0 };
             once = Missing;
             running = alike begun;
           };

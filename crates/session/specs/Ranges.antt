@@ -6,19 +6,31 @@ use mathlib.Core.Bool.{Bool, true, false}
 use lib.Dec.{eqb, leb}
 use lib.ListN.{length}
 use Rattle.ground.specs.Choice.{both, either, fails, between}
+use Rattle.digest.specs.declared.State.{State}
+use Rattle.digest.specs.declared.Running.{Running}
 use Rattle.calendar.specs.Dates.{realTime}
-use Rattle.message.specs.declared.Kind.{Kind}
+use Rattle.message.specs.declared.Extent.{Extent}
+use Rattle.message.specs.declared.Extent.the-variants.{Whole, TooShort, LengthNotDigits, OtherLength, CutShort}
 use Rattle.checks.specs.Checks.{keyOr0}
+use Rattle.session.specs.Events.{keptRoom}
 use Rattle.session.specs.declared.Place.{Place}
 use Rattle.session.specs.declared.Place.the-variants.{BeforeEsi, Outside, Collecting, InData, Closed}
 use Rattle.session.specs.declared.Session.{Session}
 
--- the time is real, the data type is 1 to 16, at most 161 characters are kept, the SUO's one-record fault is 0 to 3; the day is the
--- table's, and every other number may be any that its type holds
+-- a message cut short by the file's end: no frame goes on after such a SUO
+unfoldable pub isCut : Extent → Bool
+isCut Whole = false
+isCut TooShort = false
+isCut LengthNotDigits = false
+isCut OtherLength = false
+isCut CutShort = true
+
+-- the time is real, the data type is 1 to 16, at most as many characters are kept as there is room for, the SUO was not cut short; the day
+-- is the table's, and every other number may be any that its type holds
 unfoldable pub inRange : Session → Bool
 inRange s =
     both (realTime (s .opening .time))
-    (both (between 1 16 (s .opening .kind)) (both (leb (s .gathered .count) 161) (leb (s .batch .suo .alone) 3)))
+    (both (between 1 16 (s .opening .kind)) (both (leb (s .gathered .count) keptRoom) (fails (isCut (s .batch .suo .extent)))))
 
 unfoldable pub isClosed : Place → Bool
 isClosed BeforeEsi = false
@@ -43,3 +55,26 @@ pub record Fits (s : Session) : Type 0 where
   pub suo-long : length (s .batch .suo .text) ≡ 161
   pub sender-long : length (s .sender) ≡ 25
   pub key-fits : keyOr0 (s .batch .once) < 2 ^ 64
+
+-- the words of a digest's state fit eight bytes each
+pub record StateFits (s : State) : Type 0 where
+  pub chain-fits : s .chain < 2 ^ 64
+  pub block-fits : s .block < 2 ^ 64
+  pub count-fits : s .n < 2 ^ 64
+
+pub record RunningFits (r : Running) : Type 0 where
+  pub start-fits : StateFits (r .start)
+  pub solid-fits : StateFits (r .solid)
+  pub last-fits : StateFits (r .last)
+
+-- what holds of every session that bytes say and that a call hands back: it fits its type, and each number the bytes that it is written in
+pub record Encodes (s : Session) : Type 0 where
+  pub fits : Fits s
+  pub day-fits : s .opening .today .yymmdd < 2 ^ 32
+  pub time-fits : s .opening .time < 2 ^ 32
+  pub kind-fits : s .opening .kind < 2 ^ 32
+  pub clock-fits : s .opening .clock < 2 ^ 64
+  pub made-fits : s .made < 2 ^ 64
+  pub size-fits : s .line .size < 2 ^ 32
+  pub count-fits : s .gathered .count < 2 ^ 32
+  pub running-fits : RunningFits (s .batch .running)

@@ -25,7 +25,7 @@ pub struct Gathered {
 
 // The open frame: its SUO, the one-time key deciphered at the SUO's end, and the digest of its records.
 pub struct Batch {
-    pub suo: checks::Collected,
+    pub suo: message::Collected,
     pub once: changeover::Key,
     pub running: digest::Running,
 }

@@ -19,12 +19,43 @@ use Rattle.record.proofs.Back.{field, flag-read}
 use Rattle.digest.specs.declared.State.{State}
 use Rattle.changeover.specs.declared.Key.{Key}
 use Rattle.changeover.specs.declared.Key.the-variants.{Missing, Is}
+use Rattle.message.specs.declared.Extent.{Extent}
+use Rattle.message.specs.declared.Extent.the-variants.{Whole, TooShort, LengthNotDigits, OtherLength, CutShort}
 use Rattle.message.specs.declared.Kind.the-variants.{Esi, Suo, Var}
+use Rattle.checks.specs.Checks.{keyOr0}
+use Rattle.session.specs.Ranges.{StateFits, Encodes}
 use Rattle.session.specs.declared.Place.{Place}
 use Rattle.session.specs.declared.Place.the-variants.{BeforeEsi, Outside, Collecting, InData, Closed}
 use Rattle.session.specs.declared.Session.{Session}
-use Rattle.session_bytes.specs.Session.{kindNumber, placeNumber, placeNumbered, keyBytes, keyOf, stateBytes, stateOf, sessionBytes, sessionOf, StateFits, KeyFits, Encodes}
+use Rattle.session_bytes.specs.Session.{kindNumber, placeNumber, placeNumbered, extentNumber, extentNumbered, keyBytes, keyOf, stateBytes, stateOf}
+use Rattle.session_bytes.specs.Session.{sessionBytes, sessionOf}
 use Rattle.session_bytes.proofs.Widths.{stateFields, stateWidths, state-wide, sessionFields, sessionWidths, session-wide}
+
+-- ---- what was collected of a message
+
+pub extent-small : (x : Extent) → extentNumber x ≤ 4
+unfolding extentNumber
+extent-small Whole = omega arith
+extent-small TooShort = omega arith
+extent-small LengthNotDigits = omega arith
+extent-small OtherLength = omega arith
+extent-small CutShort = omega arith
+
+extent-numbered : (x : Extent) → extentNumbered (extentNumber x) ≡ x
+unfolding extentNumbered extentNumber pick
+extent-numbered Whole = refl
+extent-numbered TooShort = refl
+extent-numbered LengthNotDigits = refl
+extent-numbered OtherLength = refl
+extent-numbered CutShort = refl
+
+-- any other number is the last one's
+pub extent-cut : (n : ℕ) → (n ≡ 0 → ⊥) → (n ≡ 1 → ⊥) → (n ≡ 2 → ⊥) → (n ≡ 3 → ⊥) → extentNumbered n ≡ CutShort
+unfolding extentNumbered
+extent-cut n h₀ h₁ h₂ h₃ = skips _ _ _ (ne-eqb n 0 h₀) ∙ skips _ _ _ (ne-eqb n 1 h₁) ∙ skips _ _ _ (ne-eqb n 2 h₂) ∙ skips _ _ _ (ne-eqb n 3 h₃)
+
+extent-back : (x : Extent) → extentNumbered (num (bytesOf 4 (extentNumber x))) ≡ x
+extent-back x = ap extentNumbered (num-bytes 4 (extentNumber x) (omega (arith, extent-small x))) ∙ extent-numbered x
 
 -- ---- the place
 
@@ -71,12 +102,12 @@ held-flag : (l : List ℕ) → num (part 0 1 ((1 ∷ []) ++ l)) ≡ 1
 unfolding num part
 held-flag l = refl
 
-held-key : (key : ℕ) → part 1 8 ((1 ∷ []) ++ bytesOf 8 key) ≡ bytesOf 8 key
+pub held-key : (key : ℕ) → part 1 8 ((1 ∷ []) ++ bytesOf 8 key) ≡ bytesOf 8 key
 unfolding part
 held-key key = take-all 8 (bytesOf 8 key) (omega (arith, bytesOf-length 8 key))
 
-pub key-back : (k : Key) → KeyFits k → keyOf (keyBytes k) ≡ k
-unfolding keyBytes keyOf KeyFits num part pick
+pub key-back : (k : Key) → keyOr0 k < 2 ^ 64 → keyOf (keyBytes k) ≡ k
+unfolding keyBytes keyOf keyOr0 num part pick
 key-back Missing h = refl
 key-back (Is key) h =
     key-held ((1 ∷ []) ++ bytesOf 8 key) (held-flag (bytesOf 8 key))
@@ -111,7 +142,7 @@ long-back n l e h = ap num e ∙ num-bytes 8 n (omega arith)
 pub session-back : (s : Session) → Encodes s → sessionOf (sessionBytes s) ≡ s
 unfolding sessionBytes sessionOf
 session-back s h =
-    let at = field (sessionFields s) sessionWidths (session-wide s (h .sender-long) (h .text-long) (h .suo-long)) in
+    let at = field (sessionFields s) sessionWidths (session-wide s (h .fits .sender-long) (h .fits .message-long) (h .fits .suo-long)) in
     let opened = flag-back (s .opened) _ (at 0) in
     let ended = flag-back (s .ended) _ (at 1) in
     let told = flag-back (s .told) _ (at 2) in
@@ -127,13 +158,13 @@ session-back s h =
     let count = word-back (s .gathered .count) _ (at 12) (h .count-fits) in
     let over = flag-back (s .gathered .blank) _ (at 13) in
     let text = at 14 in
-    let alone = word-back (s .batch .suo .alone) _ (at 15) (h .alone-fits) in
+    let extent = ap (λ (x : List ℕ). extentNumbered (num x)) (at 15) ∙ extent-back (s .batch .suo .extent) in
     let blank = flag-back (s .batch .suo .blank) _ (at 16) in
     let suo = at 17 in
-    let once = ap keyOf (at 18) ∙ key-back (s .batch .once) (h .key-fits) in
-    let start = ap stateOf (at 19) ∙ state-back (s .batch .running .start) (h .start-fits) in
-    let solid = ap stateOf (at 20) ∙ state-back (s .batch .running .solid) (h .solid-fits) in
-    let last = ap stateOf (at 21) ∙ state-back (s .batch .running .last) (h .last-fits) in
+    let once = ap keyOf (at 18) ∙ key-back (s .batch .once) (h .fits .key-fits) in
+    let start = ap stateOf (at 19) ∙ state-back (s .batch .running .start) (h .running-fits .start-fits) in
+    let solid = ap stateOf (at 20) ∙ state-back (s .batch .running .solid) (h .running-fits .solid-fits) in
+    let last = ap stateOf (at 21) ∙ state-back (s .batch .running .last) (h .running-fits .last-fits) in
     λ i. record {
       opened = opened i;
       ended = ended i;
@@ -146,7 +177,7 @@ session-back s h =
       gathered = record { count = count i; blank = over i; text = text i };
       batch =
           record {
-            suo = record { alone = alone i; blank = blank i; text = suo i };
+            suo = record { extent = extent i; blank = blank i; text = suo i };
             once = once i;
             running = record { start = start i; solid = solid i; last = last i };
           };

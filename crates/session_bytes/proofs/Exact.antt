@@ -1,4 +1,4 @@
--- Bytes are exact where their flags are 0 or 1, the place is at most 6 and the room of a one-time key that is not held is zero, since all else is written as it is read.
+-- Bytes are exact where their flags are 0 or 1, the place is at most 6, the SUO's extent at most 4 and the room of a one-time key that is not held is zero, since all else is written as it is read.
 -- Assumes nothing.
 use mathlib.Core.Path.{_≡_, refl, sym, ap, _∙_, subst}
 use mathlib.Core.Bool.{Bool, true, false}
@@ -19,10 +19,10 @@ use Rattle.record.proofs.Widths.{byte-one}
 use Rattle.record.proofs.Places.{num-in}
 use Rattle.record.proofs.Back.{field}
 use Rattle.record.proofs.Exact.{differ, agree, number-exact, flag-exact, flag-small}
-use Rattle.session_bytes.specs.Session.{sessionSize, placeNumber, placeNumbered, kindNumber, keyBytes, keyOf, stateBytes, stateOf, sessionBytes, sessionOf, isSession}
+use Rattle.session_bytes.specs.Session.{sessionSize, placeNumber, placeNumbered, kindNumber, extentNumber, extentNumbered, keyBytes, keyOf, stateBytes, stateOf, sessionBytes, sessionOf, isSession}
 use Rattle.session_bytes.specs.Groups.{Flags}
 use Rattle.session_bytes.proofs.Widths.{stateWidths, sessionFields, sessionWidths, session-wide}
-use Rattle.session_bytes.proofs.Back.{place-small, key-none, key-held}
+use Rattle.session_bytes.proofs.Back.{place-small, extent-small, key-none, key-held}
 
 -- ---- a test of a fact, as a call answers it
 
@@ -44,6 +44,15 @@ numbered (suc (suc (suc (suc zero)))) k = refl
 numbered (suc (suc (suc (suc (suc zero))))) k = refl
 numbered (suc (suc (suc (suc (suc (suc zero)))))) k = refl
 numbered (suc (suc (suc (suc (suc (suc (suc x))))))) k = absurd (omega arith)
+
+extent-exact : (x : ℕ) → x ≤ 4 → extentNumber (extentNumbered x) ≡ x
+unfolding extentNumber extentNumbered pick
+extent-exact zero k = refl
+extent-exact (suc zero) k = refl
+extent-exact (suc (suc zero)) k = refl
+extent-exact (suc (suc (suc zero))) k = refl
+extent-exact (suc (suc (suc (suc zero)))) k = refl
+extent-exact (suc (suc (suc (suc (suc x))))) k = absurd (omega arith)
 
 -- ---- a digest's state
 
@@ -121,9 +130,10 @@ module _ (t : List ℕ) (h : length t ≡ sessionSize) where
 -- ---- a session
 
 module _ (l : List ℕ) (n : length l ≡ sessionSize) where
-  pub session-exact : AllBytes l → Flags l → num (part 3 1 l) ≤ 6 → keyBytes (keyOf (part 394 9 l)) ≡ part 394 9 l → sessionBytes (sessionOf l) ≡ l
+  pub session-exact : AllBytes l → Flags l → num (part 3 1 l) ≤ 6 → num (part 228 4 l) ≤ 4
+      → keyBytes (keyOf (part 394 9 l)) ≡ part 394 9 l → sessionBytes (sessionOf l) ≡ l
   unfolding sessionBytes sessionOf
-  session-exact b f p once =
+  session-exact b f p x once =
       let state : (o : ℕ) → o + 24 ≤ length l → stateBytes (stateOf (part o 24 l)) ≡ part o 24 l = λ o h.
       state-exact (part o 24 l) (part-length l o 24 h) (bytes-part o 24 l b) in
       let opened = flag-exact l b 0 (omega arith) (f .opened) in
@@ -139,17 +149,17 @@ module _ (l : List ℕ) (n : length l ≡ sessionSize) where
       let cr = flag-exact l b 61 (omega arith) (f .cr) in
       let count = number-exact l b 62 4 (omega arith) in
       let over = flag-exact l b 66 (omega arith) (f .over) in
-      let alone = number-exact l b 228 4 (omega arith) in
+      let extent = ap (bytesOf 4) (extent-exact (num (part 228 4 l)) x) ∙ number-exact l b 228 4 (omega arith) in
       let blank = flag-exact l b 232 (omega arith) (f .suo) in
       let start = state 403 (omega arith) in
       let solid = state 427 (omega arith) in
       let last = state 451 (omega arith) in
-      (λ i. joined (opened i ∷ ended i ∷ told i ∷ place i ∷ day i ∷ time i ∷ kind i ∷ clock i ∷ made i ∷ part 32 25 l ∷ size i ∷ cr i ∷ count i ∷ over i ∷ part 67 161 l ∷ alone i ∷ blank i ∷ part 233 161 l ∷ once i ∷ start i ∷ solid i ∷ last i ∷ []))
+      (λ i. joined (opened i ∷ ended i ∷ told i ∷ place i ∷ day i ∷ time i ∷ kind i ∷ clock i ∷ made i ∷ part 32 25 l ∷ size i ∷ cr i ∷ count i ∷ over i ∷ part 67 161 l ∷ extent i ∷ blank i ∷ part 233 161 l ∷ once i ∷ start i ∷ solid i ∷ last i ∷ []))
       ∙ join-parts sessionWidths 0 l
       ∙ part-all l 475 (omega arith)
 
   module _ (e : sessionBytes (sessionOf l) ≡ l) where
-    fields : (k : ℕ) → getD (parts 0 sessionWidths l) k [] ≡ getD (sessionFields (sessionOf l)) k []
+    pub fields : (k : ℕ) → getD (parts 0 sessionWidths l) k [] ≡ getD (sessionFields (sessionOf l)) k []
     unfolding sessionBytes sessionOf
     fields k =
         let w = session-wide (sessionOf l) (part-length l 32 25 (omega arith)) (part-length l 67 161 (omega arith)) (part-length l 233 161 (omega arith)) in
@@ -171,6 +181,12 @@ module _ (l : List ℕ) (n : length l ≡ sessionSize) where
         let p = sessionOf l .place in
         let h = place-small p in
         omega (arith, ap num (fields 3) ∙ num-bytes 1 (placeNumber p) (omega arith))
+
+    pub extent-in : num (part 228 4 l) ≤ 4
+    extent-in =
+        let x = sessionOf l .batch .suo .extent in
+        let h = extent-small x in
+        omega (arith, ap num (fields 15) ∙ num-bytes 4 (extentNumber x) (omega arith))
 
     pub key-exact : keyBytes (keyOf (part 394 9 l)) ≡ part 394 9 l
     unfolding sessionOf

@@ -10,8 +10,9 @@ use lib.ListN.{length}
 use Rattle.ground.specs.Lists.{same}
 use Rattle.ground.proofs.Choices.{left, right, join, picks, skips, same-eq, eq-same}
 use Rattle.session.specs.Machine.{unopened}
+use Rattle.session.specs.Ranges.{Encodes}
 use Rattle.session.specs.declared.Session.{Session}
-use Rattle.session_bytes.specs.Session.{sessionSize, sessionBytes, sessionOf, isSession, sessionIn, sessionStored, Encodes}
+use Rattle.session_bytes.specs.Session.{sessionSize, sessionBytes, sessionOf, isSession, sessionIn, sessionStored}
 use Rattle.session_bytes.proofs.Widths.{session-width}
 use Rattle.session_bytes.proofs.Back.{session-back}
 
@@ -19,7 +20,7 @@ pub back : (s : Session) → Encodes s → sessionOf (sessionBytes s) ≡ s
 back = session-back
 
 pub size : (s : Session) → Encodes s → length (sessionBytes s) ≡ sessionSize
-size s h = session-width s (h .sender-long) (h .text-long) (h .suo-long)
+size s h = session-width s (h .fits .sender-long) (h .fits .message-long) (h .fits .suo-long)
 
 pub is-session : (s : Session) → Encodes s → isSession (sessionBytes s) ≡ true
 unfolding isSession

@@ -4,3 +4,4 @@ pub mod Groups
 pub mod Back
 pub mod Exact
 pub mod Laws
+pub mod Any

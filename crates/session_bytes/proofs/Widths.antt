@@ -18,7 +18,7 @@ use Rattle.answers.specs.declared.Opening.{Opening}
 use Rattle.session.specs.declared.Line.{Line}
 use Rattle.session.specs.declared.Batch.{Batch}
 use Rattle.session.specs.declared.Session.{Session}
-use Rattle.session_bytes.specs.Session.{sessionSize, placeNumber, keyBytes, stateBytes, sessionBytes}
+use Rattle.session_bytes.specs.Session.{extentNumber, sessionSize, placeNumber, keyBytes, stateBytes, sessionBytes}
 use Rattle.session_bytes.specs.Groups.{markFields, openingFields, lineFields, headFields, textFields, runningFields, batchFields}
 
 wide-append : (fs gs : List (List ℕ)) (ws vs : List ℕ) → Widths fs ws → Widths gs vs → Widths (fs ++ gs) (ws ++ vs)
@@ -99,9 +99,9 @@ batchWidths = textWidths ++ (9 ∷ []) ++ runningWidths
 
 pub batch-wide : (b : Batch) → length (b .suo .text) ≡ 161 → Widths (batchFields b) batchWidths
 batch-wide b n =
-    let f = textFields (b .suo .alone) (b .suo .blank) (b .suo .text) in
+    let f = textFields (extentNumber (b .suo .extent)) (b .suo .blank) (b .suo .text) in
     wide-append (f ++ (keyBytes (b .once) ∷ [])) (runningFields (b .running)) (textWidths ++ (9 ∷ [])) runningWidths
-    (wide-append f (keyBytes (b .once) ∷ []) textWidths (9 ∷ []) (text-wide (b .suo .alone) (b .suo .blank) (b .suo .text) n) (key-width (b .once), tt))
+    (wide-append f (keyBytes (b .once) ∷ []) textWidths (9 ∷ []) (text-wide (extentNumber (b .suo .extent)) (b .suo .blank) (b .suo .text) n) (key-width (b .once), tt))
     (running-wide (b .running))
 
 -- ---- a session

@@ -10,7 +10,7 @@ use Rattle.answers.specs.declared.Opening.{Opening}
 use Rattle.session.specs.declared.Line.{Line}
 use Rattle.session.specs.declared.Batch.{Batch}
 use Rattle.session.specs.declared.Session.{Session}
-use Rattle.session_bytes.specs.Session.{placeNumber, keyBytes, stateBytes, flag}
+use Rattle.session_bytes.specs.Session.{placeNumber, extentNumber, keyBytes, stateBytes, flag}
 
 abbrev pub markFields : Session → List (List ℕ)
 markFields s = flag (s .opened) ∷ flag (s .ended) ∷ flag (s .told) ∷ bytesOf 1 (placeNumber (s .place)) ∷ []
@@ -34,7 +34,7 @@ runningFields r = stateBytes (r .start) ∷ stateBytes (r .solid) ∷ stateBytes
 
 -- SUO 166, one-time key 9, digest 72
 abbrev pub batchFields : Batch → List (List ℕ)
-batchFields b = textFields (b .suo .alone) (b .suo .blank) (b .suo .text) ++ (keyBytes (b .once) ∷ []) ++ runningFields (b .running)
+batchFields b = textFields (extentNumber (b .suo .extent)) (b .suo .blank) (b .suo .text) ++ (keyBytes (b .once) ∷ []) ++ runningFields (b .running)
 
 -- each flag byte is 0 or 1
 pub record Flags (b : List ℕ) : Type 0 where

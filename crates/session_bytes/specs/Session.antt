@@ -1,7 +1,6 @@
 -- A session as bytes that a host keeps (docs/FORMAT.md). Every number is written lowest byte first.
 -- Assumes nothing.
-use Prim.Native.Nat.{ℕ, _<_, _≤_, _^_}
-use mathlib.Core.Path.{_≡_}
+use Prim.Native.Nat.{ℕ}
 use mathlib.Core.Bool.{Bool}
 use mathlib.Core.List.{List, [], _∷_, _++_}
 use lib.Dec.{eqb}
@@ -12,6 +11,8 @@ use Rattle.splices.specs.Bytes.{num, bytesOf, joined}
 use Rattle.digest.specs.declared.State.{State}
 use Rattle.changeover.specs.declared.Key.{Key}
 use Rattle.changeover.specs.declared.Key.the-variants.{Missing, Is}
+use Rattle.message.specs.declared.Extent.{Extent}
+use Rattle.message.specs.declared.Extent.the-variants.{Whole, TooShort, LengthNotDigits, OtherLength, CutShort}
 use Rattle.message.specs.declared.Kind.{Kind}
 use Rattle.message.specs.declared.Kind.the-variants.{Esi, Suo, Var}
 use Rattle.session.specs.Machine.{unopened}
@@ -43,6 +44,20 @@ placeNumbered n =
     (pick (eqb n 1) Outside
     (pick (eqb n 2) (Collecting Esi)
     (pick (eqb n 3) (Collecting Suo) (pick (eqb n 4) (Collecting Var) (pick (eqb n 5) InData Closed)))))
+
+-- ---- what was collected of a message, as a number
+
+unfoldable pub extentNumber : Extent → ℕ
+extentNumber Whole = 0
+extentNumber TooShort = 1
+extentNumber LengthNotDigits = 2
+extentNumber OtherLength = 3
+extentNumber CutShort = 4
+
+unfoldable pub extentNumbered : ℕ → Extent
+extentNumbered n =
+    pick (eqb n 0) Whole
+    (pick (eqb n 1) TooShort (pick (eqb n 2) LengthNotDigits (pick (eqb n 3) OtherLength CutShort)))
 
 -- ---- the one-time key: held 1, key 8, zero if none
 
@@ -84,7 +99,7 @@ sessionBytes s =
     bytesOf 4 (s .gathered .count) ∷
     flag (s .gathered .blank) ∷
     s .gathered .text ∷
-    bytesOf 4 (s .batch .suo .alone) ∷
+    bytesOf 4 (extentNumber (s .batch .suo .extent)) ∷
     flag (s .batch .suo .blank) ∷
     s .batch .suo .text ∷
     keyBytes (s .batch .once) ∷
@@ -115,7 +130,7 @@ sessionOf l =
       gathered = record { count = num (part 62 4 l); blank = flagAt 66 l; text = part 67 161 l };
       batch =
           record {
-            suo = record { alone = num (part 228 4 l); blank = flagAt 232 l; text = part 233 161 l };
+            suo = record { extent = extentNumbered (num (part 228 4 l)); blank = flagAt 232 l; text = part 233 161 l };
             once = keyOf (part 394 9 l);
             running =
                 record {
@@ -126,7 +141,7 @@ sessionOf l =
           };
     }
 
--- the bytes are just what the session they say is written as: flags are 0 or 1, the place is 0 to 6, and what is not there is zero
+-- the bytes are just what the session they say is written as: flags are 0 or 1, the place is 0 to 6, the SUO's extent 0 to 4, and what is not there is zero
 unfoldable pub isSession : List ℕ → Bool
 isSession b = both (eqb (length b) sessionSize) (same (sessionBytes (sessionOf b)) b)
 
@@ -137,31 +152,3 @@ sessionIn b = pick (isSession b) (sessionOf b) unopened
 -- bytes with a session written over them; those of another length stay
 unfoldable pub sessionStored : List ℕ → Session → List ℕ
 sessionStored b s = pick (eqb (length b) sessionSize) (sessionBytes s) b
-
--- the state's words fit
-pub record StateFits (s : State) : Type 0 where
-  pub chain-fits : s .chain < 2 ^ 64
-  pub block-fits : s .block < 2 ^ 64
-  pub count-fits : s .n < 2 ^ 64
-
-unfoldable pub KeyFits : Key → Type 0
-KeyFits Missing = 0 ≤ 0
-KeyFits (Is key) = key < 2 ^ 64
-
--- what holds of every session that a call hands back: its words and arrays have their widths, and at most 161 characters are kept
-pub record Encodes (s : Session) : Type 0 where
-  pub day-fits : s .opening .today .yymmdd < 2 ^ 32
-  pub time-fits : s .opening .time < 2 ^ 32
-  pub kind-fits : s .opening .kind < 2 ^ 32
-  pub clock-fits : s .opening .clock < 2 ^ 64
-  pub made-fits : s .made < 2 ^ 64
-  pub sender-long : length (s .sender) ≡ 25
-  pub size-fits : s .line .size < 2 ^ 32
-  pub count-fits : s .gathered .count < 2 ^ 32
-  pub text-long : length (s .gathered .text) ≡ 161
-  pub alone-fits : s .batch .suo .alone < 2 ^ 32
-  pub suo-long : length (s .batch .suo .text) ≡ 161
-  pub key-fits : KeyFits (s .batch .once)
-  pub start-fits : StateFits (s .batch .running .start)
-  pub solid-fits : StateFits (s .batch .running .solid)
-  pub last-fits : StateFits (s .batch .running .last)

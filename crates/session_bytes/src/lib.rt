@@ -6,7 +6,7 @@ ghost use lib.ListN.{length};
 ghost use Rattle.ground.specs.Choice.{one};
 ghost use Rattle.ground.specs.Lists.{part, same};
 ghost use Rattle.splices.specs.Bytes.{joined, splice};
-ghost use Rattle.session_bytes.specs.Session.{sessionSize, placeNumber, kindNumber, placeNumbered, keyBytes, keyOf, stateBytes, stateOf, sessionBytes, sessionOf, isSession, sessionIn, sessionStored};
+ghost use Rattle.session_bytes.specs.Session.{sessionSize, placeNumber, kindNumber, placeNumbered, extentNumber, extentNumbered, keyBytes, keyOf, stateBytes, stateOf, sessionBytes, sessionOf, isSession, sessionIn, sessionStored};
 ghost use Rattle.session_bytes.specs.Groups.{markFields, openingFields, lineFields, headFields, textFields, runningFields, batchFields, Flags};
 
 // The bytes that a session takes.
@@ -84,13 +84,31 @@ fn gathered_in(b: &[u8]) -> session::Gathered
     }
 }
 
-fn suo_in(b: &[u8]) -> checks::Collected
+fn extent_numbered(n: u32) -> message::Extent
+    ensures { λ r. ⌜ r ≡ extentNumbered n ⌝ }
+{
+    if n == 0 {
+        return message::Extent::Whole;
+    }
+    if n == 1 {
+        return message::Extent::TooShort;
+    }
+    if n == 2 {
+        return message::Extent::LengthNotDigits;
+    }
+    if n == 3 {
+        return message::Extent::OtherLength;
+    }
+    message::Extent::CutShort
+}
+
+fn suo_in(b: &[u8]) -> message::Collected
     requires { ⌜ length (now b) ≡ sessionSize ⌝ }
     ensures { λ r. ⌜ r ≡ sessionOf (now (b .entry)) .batch .suo ⌝ }
 {
     let text = text_at(b, 233);
-    checks::Collected {
-        alone: splices::read4(b, 228),
+    message::Collected {
+        extent: extent_numbered(splices::read4(b, 228)),
         blank: splices::read1(b, 232) == 1,
         text,
     }
@@ -211,6 +229,9 @@ pub fn is_session(b: &[u8]) -> bool
     if splices::read1(b, 3) > 6 {
         return false;
     }
+    if splices::read4(b, 228) > 4 {
+        return false;
+    }
     is_exact_key(b)
 }
 
@@ -252,6 +273,18 @@ fn place_number(p: session::Place) -> u32
         session::Place::Collecting(kind) => kind_number(kind),
         session::Place::InData => 5,
         session::Place::Closed => 6,
+    }
+}
+
+fn extent_number(x: message::Extent) -> u32
+    ensures { λ r. ⌜ r ≡ extentNumber x ⌝ }
+{
+    match x {
+        message::Extent::Whole => 0,
+        message::Extent::TooShort => 1,
+        message::Extent::LengthNotDigits => 2,
+        message::Extent::OtherLength => 3,
+        message::Extent::CutShort => 4,
     }
 }
 
@@ -358,7 +391,8 @@ fn store_batch(b: &mut [u8], a: session::Batch)
     let suo = a.suo;
     let once = a.once;
     let running = a.running;
-    store_text(b, 228, suo.alone, suo.blank, &suo.text);
+    let extent = suo.extent;
+    store_text(b, 228, extent_number(extent), suo.blank, &suo.text);
     store_key(b, once);
     store_running(b, running);
 }

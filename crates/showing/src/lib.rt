@@ -175,7 +175,7 @@ fn customer_at(t: &[u8], i: usize) {
     say::out(b"  types      ");
     types(c.types);
     say::out(b"\n  changeover ");
-    number(c.length as u64);
+    number(c.length.0 as u64);
     say::out(b" days\n");
     key_pair(b"  transport  ", transport);
     key_pair(b"  working    ", working);

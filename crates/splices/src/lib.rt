@@ -1,7 +1,7 @@
 // Numbers and runs of bytes in a slice: total, so that a place past the end reads 0 and writes nothing.
 ghost use mathlib.Core.Path.{_≡_};
 ghost use Prim.Native.Nat.{_+_, _≤_, _<_};
-ghost use mathlib.Core.Bool.{true, false};
+ghost use lib.Dec.{leb};
 ghost use lib.ListN.{length};
 ghost use Rattle.ground.specs.Lists.{part};
 ghost use Rattle.splices.specs.Bytes.{num, bytesOf, numAt, splice, put};
@@ -14,8 +14,7 @@ fn wide(x: u8) -> u32
 
 // Whether k bytes at `at` lie within n bytes.
 pub fn fits(n: usize, at: usize, k: usize) -> bool
-    ensures yes { λ r. ⌜ (r ≡ true → at + k ≤ n) ⌝ }
-    ensures no { λ r. ⌜ (r ≡ false → n < at + k) ⌝ }
+    ensures { λ r. ⌜ r ≡ leb (at + k) n ⌝ }
 {
     if n < at {
         return false;

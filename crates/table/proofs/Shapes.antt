@@ -103,7 +103,7 @@ customer-shaped c f e =
       who = eqb-true _ _ (left _ _ f);
       who-bytes = who-bytes (c .who) (left _ _ e);
       types = ltb-true (c .types) (2 ^ 16) (left _ _ e₁);
-      days = let h = between-true 1 60 (c .length) (left _ _ e₂) in omega arith;
+      days = let h = between-true 1 60 (c .length .0) (left _ _ e₂) in omega arith;
       transport = pair-shaped (c .transport) (left _ _ f₄) (left _ _ e₃);
       working = pair-shaped (c .working) (right _ _ f₄) (left _ _ e₄);
       count = let h = leb-true (c .count) 64 (left _ _ e₅) in omega arith;

@@ -108,7 +108,7 @@ nobody =
       types = 0;
       agreed = false;
       leave = false;
-      length = 0;
+      length = record { 0 = 0 };
       transport = noKeys;
       working = noKeys;
       count = 0;

@@ -53,7 +53,7 @@ fn person(first: u8, second: u8) -> Customer {
         types: 0x8001,
         agreed: true,
         leave: false,
-        length: 60,
+        length: calendar::CalendarDays(60),
         transport: KeyPair {
             generation: 0,
             key: 0x0202020202020202,

@@ -1,8 +1,10 @@
 -- What the functions answer, from what the calls in them say: each is the definition with its parts replaced by their equals.
 -- Assumes nothing.
-use mathlib.Core.Path.{_≡_, sym, ap, ap₂, _∙_}
+use mathlib.Core.Path.{_≡_, refl, ap, ap₂, _∙_}
+use mathlib.Core.Bool.{Bool}
 use mathlib.Core.List.{List}
 use Prim.Native.Nat.{ℕ, _-_}
+use Rattle.ground.specs.Choice.{pick}
 use Rattle.keys.specs.Maker.{clockValue}
 use Rattle.customer.specs.declared.Customer.{Customer}
 use Rattle.customer.specs.declared.Settings.{Settings}
@@ -16,11 +18,14 @@ use Rattle.table.specs.Decode.{tableOf}
 use Rattle.table.specs.Stored.{seedStored}
 use Rattle.table.specs.declared.Found.{Found}
 use Rattle.message.specs.Fields.{senderOf, stampOf, workingGenerationOf, requestOf}
+use Rattle.message.specs.declared.About.{About}
+use Rattle.message.specs.declared.About.the-variants.{Answered}
 use Rattle.message.specs.declared.Fault.{Fault}
 use Rattle.message.specs.declared.Fault.the-variants.{Sound, Found as FaultFound}
-use Rattle.checks.specs.Checks.{firstFailing, esiChecks, frameChecks, keyOr0}
-use Rattle.verdict.specs.Outcomes.{grantTo, recordAfter, outcomeOf, storedAt, bytesAfter, bytesBy, esiOutcome, esiLeaves, frameOutcome, frameLeaves}
-use Rattle.checks.specs.declared.Collected.{Collected}
+use Rattle.message.specs.Order.{firstFailing}
+use Rattle.checks.specs.Checks.{esiChecks, frameChecks, keyOr0}
+use Rattle.verdict.specs.Outcomes.{grantTo, recordAfter, outcomeOf, isSound, storedAt, bytesAfter, bytesBy, esiOutcome, esiLeaves, frameOutcome, frameLeaves}
+use Rattle.message.specs.declared.Collected.{Collected}
 use Rattle.checks.specs.declared.Frame.{Frame}
 use Rattle.checks.specs.declared.Occasion.{Occasion}
 use Rattle.verdict.specs.declared.Outcome.{Outcome}
@@ -42,23 +47,28 @@ stored-after b o m closing once g c f b₁ b₂ e p q h k = k ∙ rw (h, q, p, e
 
 -- ---- the answer
 
-pub accepted-outcome : (f : Fault) (g h : Granted) (made k : ℕ) → f ≡ Sound → g ≡ h → k ≡ clockValue made (g .made)
-    → _≡_ {A = Outcome} (record { code = g .code; field = 0; enclosed = g .enclosed; made = k }) (outcomeOf f h made)
+pub accepted-outcome : (f : Fault) (g : Granted) (made k : ℕ) → f ≡ Sound → k ≡ clockValue made (g .made)
+    → _≡_ {A = Outcome} (record { code = g .code; field = 0; about = Answered; enclosed = g .enclosed; made = k }) (outcomeOf f g made)
 unfolding outcomeOf clockValue
-accepted-outcome f g h made k e p q = rw (q, p, e)
+accepted-outcome f g made k e q = rw (q, e)
 
-pub refused-outcome : (f : Fault) (code field : ℕ) (h : Granted) (made : ℕ) → f ≡ FaultFound code field
-    → _≡_ {A = Outcome} (record { code = code; field = field; enclosed = Missing; made = made }) (outcomeOf f h made)
+pub refused-outcome : (f : Fault) (code field : ℕ) (about : About) (g : Granted) (made : ℕ) → f ≡ FaultFound code field about
+    → _≡_ {A = Outcome} (record { code = code; field = field; about = about; enclosed = Missing; made = made }) (outcomeOf f g made)
 unfolding outcomeOf
-refused-outcome f code field h made e = rw e
+refused-outcome f code field about g made e = rw e
 
-pub accepted-bytes : (f : Fault) (b x y : List ℕ) → f ≡ Sound → x ≡ y → x ≡ bytesBy f b y
-unfolding bytesBy
-accepted-bytes f b x y e p = p ∙ sym (ap (λ (v : Fault). bytesBy v b y) e)
+-- what is stored where no check failed is what the verdict leaves
+stored-by : (f : Fault) (b y : List ℕ) → pick (isSound f) y b ≡ bytesBy f b y
+unfolding bytesBy isSound pick
+stored-by Sound b y = refl
+stored-by (FaultFound code field about) b y = refl
 
-pub refused-bytes : (f : Fault) (code field : ℕ) (b y : List ℕ) → f ≡ FaultFound code field → b ≡ bytesBy f b y
-unfolding bytesBy
-refused-bytes f code field b y e = sym (ap (λ (v : Fault). bytesBy v b y) e)
+pub concluded : (f : Fault) (made : ℕ) (b x y : List ℕ) (g h : Granted) (s : Bool) (r : Outcome) → s ≡ isSound f
+    → (g ≡ h) × (x ≡ pick s y b) → r ≡ outcomeOf f g made → (r ≡ outcomeOf f h made) × (x ≡ bytesBy f b y)
+concluded f made b x y g h s r e a p = (
+  p ∙ ap (λ (v : Granted). outcomeOf f v made) (a .0),
+  a .1 ∙ ap (λ (t : Bool). pick t y b) e ∙ stored-by f b y,
+)
 
 pub esi-judged : (b : List ℕ) (o : Occasion) (m : Collected) (f : Fault) (r : Outcome) (x : List ℕ)
     → f ≡ firstFailing (esiChecks (tableOf b) (o .today .yymmdd) m)

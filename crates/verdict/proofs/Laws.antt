@@ -20,52 +20,54 @@ use Rattle.table.specs.Decode.{tableOf}
 use Rattle.table.specs.declared.Found.{Found}
 use Rattle.table.specs.declared.Found.the-variants.{At, Unknown}
 use Rattle.table.proofs.Places.{others-stay, stored-is, same-place, found-is, named-at, with-named-at, seed-in, known-at}
-use Rattle.message.specs.Rules.{faultOf}
+use Rattle.message.specs.Order.{firstFailing}
+use Rattle.message.specs.Rules.{formOf, formChecks}
 use Rattle.message.specs.Fields.{senderOf, stampOf}
+use Rattle.message.specs.declared.About.{About}
+use Rattle.message.specs.declared.About.the-variants.{Answered, Closing}
 use Rattle.message.specs.declared.Kind.{Kind}
 use Rattle.message.specs.declared.Kind.the-variants.{Esi, Suo, Var}
 use Rattle.message.specs.declared.Fault.{Fault}
 use Rattle.message.specs.declared.Fault.the-variants.{Sound, Found as FaultFound}
 use Rattle.message.proofs.Laws.{sound-stamp}
-use Rattle.checks.specs.Checks.{firstFailing, formChecks, partyChecks, stampChecks, roomChecks, pairChecks, keyChecks, esiChecks, frameChecks, keyOr0}
+use Rattle.checks.specs.Checks.{partyChecks, stampChecks, roomChecks, esiKeyChecks, typeChecks, pairChecks, keyChecks, esiChecks, frameChecks, keyOr0}
 use Rattle.verdict.specs.Outcomes.{grantTo, recordAfter, tableAfter, tableBy, bytesBy, esiTable, frameTable, esiLeaves, frameLeaves}
-use Rattle.checks.specs.declared.Collected.{Collected}
+use Rattle.message.specs.declared.Collected.{Collected}
 use Rattle.checks.specs.declared.Frame.{Frame}
 use Rattle.checks.specs.declared.Occasion.{Occasion}
 use Rattle.verdict.proofs.Keeps.{Kept, grant-kept, stamp-keeps}
-use Rattle.checks.proofs.Parts.{esiKeys, typeChecks, esiParts, frameParts, esi-parts, frame-parts}
-use Rattle.checks.proofs.Faults.{form-is}
-use Rattle.checks.proofs.Order.{NoneFails, accepted, none-fails, none-left, none-right}
+use Rattle.message.proofs.Order.{NoneFails, accepted, none-fails, none-left, none-right}
+use Rattle.checks.proofs.Parts.{esiParts, frameParts, esi-parts, frame-parts}
 
 -- ---- with E nothing changes
 
-by-found : (f : Fault) (c n : ℕ) (before after : Table) → f ≡ FaultFound c n → tableBy f before after ≡ before
+by-found : (f : Fault) (c n : ℕ) (a : About) (before after : Table) → f ≡ FaultFound c n a → tableBy f before after ≡ before
 unfolding tableBy
-by-found f c n before after e = ap (λ (x : Fault). tableBy x before after) e
+by-found f c n a before after e = ap (λ (x : Fault). tableBy x before after) e
 
-bytes-found : (f : Fault) (c n : ℕ) (before after : List ℕ) → f ≡ FaultFound c n → bytesBy f before after ≡ before
+bytes-found : (f : Fault) (c n : ℕ) (a : About) (before after : List ℕ) → f ≡ FaultFound c n a → bytesBy f before after ≡ before
 unfolding bytesBy
-bytes-found f c n before after e = ap (λ (x : Fault). bytesBy x before after) e
+bytes-found f c n a before after e = ap (λ (x : Fault). bytesBy x before after) e
 
-pub esi-e-changes-nothing : (t : Table) (o : Occasion) (m : Collected) (c n : ℕ)
-    → firstFailing (esiChecks t (o .today .yymmdd) m) ≡ FaultFound c n → esiTable t o m ≡ t
+pub esi-e-changes-nothing : (t : Table) (o : Occasion) (m : Collected) (c n : ℕ) (a : About)
+    → firstFailing (esiChecks t (o .today .yymmdd) m) ≡ FaultFound c n a → esiTable t o m ≡ t
 unfolding esiTable
-esi-e-changes-nothing t o m c n e = by-found _ c n _ _ e
+esi-e-changes-nothing t o m c n a e = by-found _ c n a _ _ e
 
-pub frame-e-changes-nothing : (t : Table) (o : Occasion) (f : Frame) (c n : ℕ)
-    → firstFailing (frameChecks t (o .today .yymmdd) (o .kind) f) ≡ FaultFound c n → frameTable t o f ≡ t
+pub frame-e-changes-nothing : (t : Table) (o : Occasion) (f : Frame) (c n : ℕ) (a : About)
+    → firstFailing (frameChecks t (o .today .yymmdd) (o .kind) f) ≡ FaultFound c n a → frameTable t o f ≡ t
 unfolding frameTable
-frame-e-changes-nothing t o f c n e = by-found _ c n _ _ e
+frame-e-changes-nothing t o f c n a e = by-found _ c n a _ _ e
 
-pub esi-e-leaves : (b : List ℕ) (o : Occasion) (m : Collected) (c n : ℕ)
-    → firstFailing (esiChecks (tableOf b) (o .today .yymmdd) m) ≡ FaultFound c n → esiLeaves b o m ≡ b
+pub esi-e-leaves : (b : List ℕ) (o : Occasion) (m : Collected) (c n : ℕ) (a : About)
+    → firstFailing (esiChecks (tableOf b) (o .today .yymmdd) m) ≡ FaultFound c n a → esiLeaves b o m ≡ b
 unfolding esiLeaves
-esi-e-leaves b o m c n e = bytes-found _ c n _ _ e
+esi-e-leaves b o m c n a e = bytes-found _ c n a _ _ e
 
-pub frame-e-leaves : (b : List ℕ) (o : Occasion) (f : Frame) (c n : ℕ)
-    → firstFailing (frameChecks (tableOf b) (o .today .yymmdd) (o .kind) f) ≡ FaultFound c n → frameLeaves b o f ≡ b
+pub frame-e-leaves : (b : List ℕ) (o : Occasion) (f : Frame) (c n : ℕ) (a : About)
+    → firstFailing (frameChecks (tableOf b) (o .today .yymmdd) (o .kind) f) ≡ FaultFound c n a → frameLeaves b o f ≡ b
 unfolding frameLeaves
-frame-e-leaves b o f c n e = bytes-found _ c n _ _ e
+frame-e-leaves b o f c n a e = bytes-found _ c n a _ _ e
 
 -- ---- the customer who is named
 
@@ -116,33 +118,31 @@ room-left : (t : Table) (c : Customer) (today : ℕ) → NoneFails (roomChecks t
 unfolding roomChecks
 room-left t c today n = leb-false 64 _ (n .0)
 
-form-sound : (k : Kind) (m : Collected) → NoneFails (formChecks k m) → faultOf k (m .alone) (m .blank) (m .text) ≡ Sound
-form-sound k m n = form-is k m ∙ none-fails (formChecks k m) n
-
-form-real : (k : Kind) (m : Collected) → NoneFails (formChecks k m) → length (m .text) ≡ 161 → realStamp (stampOf (m .text)) ≡ true
+form-real : (k : Kind) (about : About) (m : Collected) → NoneFails (formChecks (formOf k) about m) → length (m .text) ≡ 161
+    → realStamp (stampOf (m .text)) ≡ true
 unfolding realStamp
-form-real k m n l =
-    let s = sound-stamp k (m .alone) (m .blank) (m .text) (form-sound k m n) l in
+form-real k about m n l =
+    let s = sound-stamp k about m (none-fails (formChecks (formOf k) about m) n) l in
     join _ _ (lt-ltb (stampOf (m .text)) 1000000000000000 (s .0)) (join _ _ (s .1) (s .2))
 
-given : (k : Kind) (t : Table) (today : ℕ) (m : Collected) → NoneFails (formChecks k m) → NoneFails (partyChecks t (m .text))
+given : (k : Kind) (t : Table) (today : ℕ) (m : Collected) → NoneFails (formChecks (formOf k) Answered m) → NoneFails (partyChecks t (m .text))
     → NoneFails (roomChecks t (named t (senderOf (m .text))) today) → Accepted t today (m .text)
 given k t today m f p r =
     let i = party-known t (m .text) p in
-    record { place = i .0; known = i .1; room = room-left t _ today r; real = form-real k m f }
+    record { place = i .0; known = i .1; room = room-left t _ today r; real = form-real k Answered m f }
 
 pub esi-accepted : (t : Table) (today : ℕ) (m : Collected) → firstFailing (esiChecks t today m) ≡ Sound → Accepted t today (m .text)
 esi-accepted t today m e =
     let c = named t (senderOf (m .text)) in
-    let l₃ = esiKeys c (m .text) ++ roomChecks t c today in
+    let l₃ = esiKeyChecks c (m .text) ++ roomChecks t c today in
     let l₂ = stampChecks t c today (m .text) ++ l₃ in
     let l₁ = partyChecks t (m .text) ++ l₂ in
     let n = accepted (esiParts t c today m) (ap firstFailing (sym (esi-parts t today m)) ∙ e) in
-    let p = none-right (formChecks Esi m) l₁ n in
+    let p = none-right (formChecks (formOf Esi) Answered m) l₁ n in
     let s = none-right (partyChecks t (m .text)) l₂ p in
     let k = none-right (stampChecks t c today (m .text)) l₃ s in
-    given Esi t today m (none-left (formChecks Esi m) l₁ n) (none-left (partyChecks t (m .text)) l₂ p)
-    (none-right (esiKeys c (m .text)) (roomChecks t c today) k)
+    given Esi t today m (none-left (formChecks (formOf Esi) Answered m) l₁ n) (none-left (partyChecks t (m .text)) l₂ p)
+    (none-right (esiKeyChecks c (m .text)) (roomChecks t c today) k)
 
 -- and of a frame also that its one-time key has passed
 pub frame-passed : (t : Table) (today kind : ℕ) (f : Frame) → firstFailing (frameChecks t today kind f) ≡ Sound
@@ -154,13 +154,13 @@ frame-passed t today kind f e =
     let l₄ = pairChecks (f .suo .text) (f .var .text) ++ l₅ in
     let l₃ = typeChecks c kind ++ l₄ in
     let l₂ = partyChecks t (f .suo .text) ++ l₃ in
-    let l₁ = formChecks Var (f .var) ++ l₂ in
+    let l₁ = formChecks (formOf Var) Closing (f .var) ++ l₂ in
     let n = accepted (frameParts t c today kind f) (ap firstFailing (sym (frame-parts t today kind f)) ∙ e) in
-    let p = none-right (formChecks Var (f .var)) l₂ (none-right (formChecks Suo (f .suo)) l₁ n) in
+    let p = none-right (formChecks (formOf Var) Closing (f .var)) l₂ (none-right (formChecks (formOf Suo) Answered (f .suo)) l₁ n) in
     let b = none-right (typeChecks c kind) l₄ (none-right (partyChecks t (f .suo .text)) l₃ p) in
     let s = none-right (pairChecks (f .suo .text) (f .var .text)) l₅ b in
     let k = none-right (stampChecks t c today (f .suo .text)) l₆ s in (
-      given Suo t today (f .suo) (none-left (formChecks Suo (f .suo)) l₁ n) (none-left (partyChecks t (f .suo .text)) l₃ p)
+      given Suo t today (f .suo) (none-left (formChecks (formOf Suo) Answered (f .suo)) l₁ n) (none-left (partyChecks t (f .suo .text)) l₃ p)
           (none-right (keyChecks t c today f) (roomChecks t c today) k),
       none-left (keyChecks t c today f) (roomChecks t c today) k,
     )
@@ -286,7 +286,7 @@ frame-stamp t o f e = frame-marked t o f e .new
 by-others : (f : Fault) (t u : Table) (j : ℕ) → customerIn u j ≡ customerIn t j → customerIn (tableBy f t u) j ≡ customerIn t j
 unfolding tableBy
 by-others Sound t u j e = e
-by-others (FaultFound c n) t u j e = refl
+by-others (FaultFound c n a) t u j e = refl
 
 pub esi-others : (t : Table) (o : Occasion) (m : Collected) (j : ℕ) → (placeOf t (senderOf (m .text)) ≡ At j → ⊥)
     → customerIn (esiTable t o m) j ≡ customerIn t j

@@ -31,12 +31,13 @@ use Rattle.table.proofs.Stores.{store-is, seed-is}
 use Rattle.message.specs.Fields.{senderOf}
 use Rattle.message.specs.declared.Fault.{Fault}
 use Rattle.message.specs.declared.Fault.the-variants.{Sound, Found as FaultFound}
-use Rattle.checks.specs.Checks.{firstFailing, keyOr0, keyChecks, frameChecks}
+use Rattle.message.specs.Order.{firstFailing}
+use Rattle.message.proofs.Order.{NoneFails}
+use Rattle.checks.specs.Checks.{keyOr0, keyChecks, frameChecks}
 use Rattle.verdict.specs.Outcomes.{grantTo, recordAfter, tableAfter, tableBy, storedAt, bytesAfter, bytesBy, esiTable, frameTable, esiLeaves, frameLeaves}
-use Rattle.checks.specs.declared.Collected.{Collected}
+use Rattle.message.specs.declared.Collected.{Collected}
 use Rattle.checks.specs.declared.Frame.{Frame}
 use Rattle.checks.specs.declared.Occasion.{Occasion}
-use Rattle.checks.proofs.Order.{NoneFails}
 use Rattle.verdict.proofs.Keeps.{grant-fits, grant-seed-lt, stamp-fits}
 use Rattle.verdict.proofs.Laws.{Accepted, esi-accepted, frame-accepted, frame-passed, who-is, record-who, room-after}
 
@@ -165,7 +166,7 @@ by-fault : (f : Fault) (b : List ℕ) (x : List ℕ) (u : Table) → isTable b �
     → (bytesBy f b x ≡ written b (tableBy f (tableOf b) u)) × (soundTable (tableBy f (tableOf b) u) ≡ true)
 unfolding bytesBy tableBy
 by-fault Sound b x u e h = h refl
-by-fault (FaultFound c n) b x u e h = (sym (written-same b e), is-written b e .sound)
+by-fault (FaultFound c n a) b x u e h = (sym (written-same b e), is-written b e .sound)
 
 none-once : soundOnce 0 ≡ true
 unfolding soundOnce either

@@ -1,6 +1,7 @@
 -- What a verdict answers and leaves: with E nothing changes; with K the stamp is marked used, and keys go as the request says.
 -- Assumes nothing.
 use Prim.Native.Nat.{ℕ, _+_, _%_, _^_}
+use mathlib.Core.Bool.{Bool, true, false}
 use mathlib.Core.List.{List}
 use Rattle.keys.specs.Maker.{clockValue}
 use Rattle.customer.specs.declared.Customer.{Customer}
@@ -18,8 +19,10 @@ use Rattle.table.specs.declared.Found.the-variants.{At, Unknown}
 use Rattle.message.specs.Fields.{senderOf, stampOf, workingGenerationOf, requestOf}
 use Rattle.message.specs.declared.Fault.{Fault}
 use Rattle.message.specs.declared.Fault.the-variants.{Sound, Found as FaultFound}
-use Rattle.checks.specs.Checks.{firstFailing, esiChecks, frameChecks, keyOr0}
-use Rattle.checks.specs.declared.Collected.{Collected}
+use Rattle.message.specs.Order.{firstFailing}
+use Rattle.message.specs.declared.About.the-variants.{Answered}
+use Rattle.checks.specs.Checks.{esiChecks, frameChecks, keyOr0}
+use Rattle.message.specs.declared.Collected.{Collected}
 use Rattle.checks.specs.declared.Frame.{Frame}
 use Rattle.checks.specs.declared.Occasion.{Occasion}
 use Rattle.verdict.specs.declared.Outcome.{Outcome}
@@ -46,13 +49,20 @@ tableAfter t o m closing once =
 -- ---- the answer; the count of keys is carried round as the clock value is
 
 unfoldable pub outcomeOf : Fault → Granted → ℕ → Outcome
-outcomeOf Sound g made = record { code = g .code; field = 0; enclosed = g .enclosed; made = (made + g .made) % 2 ^ 64 }
-outcomeOf (FaultFound code field) g made = record { code = code; field = field; enclosed = Missing; made = made }
+outcomeOf Sound g made =
+    record { code = g .code; field = 0; about = Answered; enclosed = g .enclosed; made = (made + g .made) % 2 ^ 64 }
+outcomeOf (FaultFound code field about) g made =
+    record { code = code; field = field; about = about; enclosed = Missing; made = made }
+
+-- no check failed
+unfoldable pub isSound : Fault → Bool
+isSound Sound = true
+isSound (FaultFound code field about) = false
 
 -- with E the table stays as it was
 unfoldable pub tableBy : Fault → Table → Table → Table
 tableBy Sound before after = after
-tableBy (FaultFound code field) before after = before
+tableBy (FaultFound code field about) before after = before
 
 -- an ESI
 unfoldable pub esiOutcome : Table → Occasion → Collected → Outcome
@@ -85,7 +95,7 @@ bytesAfter b o m closing once =
 
 unfoldable pub bytesBy : Fault → List ℕ → List ℕ → List ℕ
 bytesBy Sound before after = after
-bytesBy (FaultFound code field) before after = before
+bytesBy (FaultFound code field about) before after = before
 
 unfoldable pub esiLeaves : List ℕ → Occasion → Collected → List ℕ
 esiLeaves b o m =

@@ -1,14 +1,16 @@
 // The verdict on an ESI or a frame: the first failing check, and what acceptance changes.
 ghost use mathlib.Core.Path.{_≡_};
+ghost use Rattle.ground.specs.Choice.{pick};
 ghost use Rattle.acceptance.specs.Stamps.{withStamp};
 ghost use Rattle.table.specs.Decode.{tableOf};
 ghost use Rattle.message.specs.Fields.{stampOf};
-ghost use Rattle.verdict.specs.Outcomes.{grantTo, outcomeOf, storedAt, bytesAfter, bytesBy, esiOutcome, esiLeaves, frameOutcome, frameLeaves};
+ghost use Rattle.verdict.specs.Outcomes.{grantTo, outcomeOf, isSound, storedAt, bytesAfter, bytesBy, esiOutcome, esiLeaves, frameOutcome, frameLeaves};
 
-// The answer: code and field, the key to enclose, and the keys made in this file then.
+// The answer: code, field and the message that the field is of, the key to enclose, and the keys made in this file then.
 pub struct Outcome {
     pub code: u32,
     pub field: u32,
+    pub about: message::About,
     pub enclosed: changeover::Key,
     pub made: u64,
 }
@@ -59,18 +61,32 @@ fn store_record(t: &mut [u8], place: table::Found, c: customer::Customer)
     }
 }
 
-// Acceptance: what is granted, with the record and the key maker's seed stored.
+// Whether no check failed.
+pub fn is_sound(fault: message::Fault) -> bool
+    ensures { λ r. ⌜ r ≡ isSound fault ⌝ }
+{
+    match fault {
+        message::Fault::Sound => true,
+        message::Fault::Found { code, field, about } => false,
+    }
+}
+
+// What acceptance grants; where no check failed, the record and the key maker's seed are stored too.
 fn accept(
     t: &mut [u8],
+    sound: bool,
     o: checks::Occasion,
     m: [u8; 161],
     closing: [u8; 161],
     once: u64,
 ) -> acceptance::Granted
-    ensures { λ r. ⌜ (r ≡ grantTo (tableOf (now (t .entry))) o m closing) × (now (t .exit) ≡ bytesAfter (now (t .entry)) o m closing once) ⌝ }
+    ensures { λ r. ⌜ (r ≡ grantTo (tableOf (now (t .entry))) o m closing) × (now (t .exit) ≡ pick sound (bytesAfter (now (t .entry)) o m closing once) (now (t .entry))) ⌝ }
 {
     let today = o.today;
     let g = grant_to(t, o, m, closing);
+    if !sound {
+        return g;
+    }
     let granted = g.customer;
     let c = marked(t, today, granted, m, once);
     let place = table::find(t, message::sender(m));
@@ -79,7 +95,32 @@ fn accept(
     g
 }
 
-// The answer by a verdict: where it is no fault, the message is accepted.
+// The answer by a verdict: where it is no fault, what was granted.
+fn answer_by(fault: message::Fault, g: acceptance::Granted, made: u64) -> Outcome
+    ensures { λ r. ⌜ r ≡ outcomeOf fault g made ⌝ }
+{
+    match fault {
+        message::Fault::Sound => {
+            let enclosed = g.enclosed;
+            Outcome {
+                code: g.code,
+                field: 0,
+                about: message::About::Answered,
+                enclosed,
+                made: keys::clock_value(made, g.made as u64),
+            }
+        }
+        message::Fault::Found { code, field, about } => Outcome {
+            code,
+            field,
+            about,
+            enclosed: changeover::Key::Missing,
+            made,
+        },
+    }
+}
+
+// The answer by a verdict, and what it changes.
 fn conclude(
     t: &mut [u8],
     fault: message::Fault,
@@ -90,31 +131,13 @@ fn conclude(
 ) -> Outcome
     ensures { λ r. ⌜ (r ≡ outcomeOf fault (grantTo (tableOf (now (t .entry))) o m closing) (o .made)) × (now (t .exit) ≡ bytesBy fault (now (t .entry)) (bytesAfter (now (t .entry)) o m closing once)) ⌝ }
 {
-    match fault {
-        message::Fault::Sound => {
-            let g = accept(t, o, m, closing, once);
-            let enclosed = g.enclosed;
-            Outcome {
-                code: g.code,
-                field: 0,
-                enclosed: enclosed,
-                made: keys::clock_value(o.made, g.made as u64),
-            }
-        }
-        message::Fault::Found { code, field } => {
-            let none = changeover::Key::Missing;
-            Outcome {
-                code: code,
-                field: field,
-                enclosed: none,
-                made: o.made,
-            }
-        }
-    }
+    let sound = is_sound(fault);
+    let g = accept(t, sound, o, m, closing, once);
+    answer_by(fault, g, o.made)
 }
 
 // The verdict on an ESI.
-pub fn judge_esi(t: &mut [u8], o: checks::Occasion, m: checks::Collected) -> Outcome
+pub fn judge_esi(t: &mut [u8], o: checks::Occasion, m: message::Collected) -> Outcome
     ensures { λ r. ⌜ (r ≡ esiOutcome (tableOf (now (t .entry))) o m) × (now (t .exit) ≡ esiLeaves (now (t .entry)) o m) ⌝ }
 {
     let text = m.text;

@@ -60,7 +60,7 @@ fn show(f: message::Fault) {
         message::Fault::Sound => {
             io::write_all(1, b"sound\n");
         }
-        message::Fault::Found { code, field } => {
+        message::Fault::Found { code, field, about } => {
             io::print_decimal(1, code as u64);
             io::write_all(1, b" ");
             io::print_decimal(1, field as u64);
@@ -79,9 +79,20 @@ fn occasion(kind: u32) -> checks::Occasion {
     }
 }
 
-fn collected(alone: u32, m: [u8; 161]) -> checks::Collected {
-    checks::Collected {
-        alone: alone,
+// What was collected, by its place among the five.
+fn extent_of(n: u32) -> message::Extent {
+    match n {
+        1 => message::Extent::TooShort,
+        2 => message::Extent::LengthNotDigits,
+        3 => message::Extent::OtherLength,
+        4 => message::Extent::CutShort,
+        _ => message::Extent::Whole,
+    }
+}
+
+fn collected(extent: u32, m: [u8; 161]) -> message::Collected {
+    message::Collected {
+        extent: extent_of(extent),
         blank: true,
         text: m,
     }
@@ -230,7 +241,7 @@ fn customer_of(who: [u8; 25], agreed: bool, count: u32, stamp: u64) -> customer:
         types: 1,
         agreed: agreed,
         leave: true,
-        length: 10,
+        length: calendar::CalendarDays(10),
         transport: transport,
         working: working,
         count: count,

@@ -4,7 +4,6 @@
 use Prim.Native.Nat.{ℕ}
 use mathlib.Core.Bool.{Bool, true, false}
 use mathlib.Core.List.{List, [], _∷_, _++_}
-use lib.Dec.{eqb}
 use lib.ListN.{length, replicate}
 use Rattle.ground.specs.Choice.{pick}
 use Rattle.des.specs.Des.{enciphered}
@@ -13,9 +12,10 @@ use Rattle.changeover.specs.declared.Key.{Key}
 use Rattle.table.specs.Table.{Table}
 use Rattle.message.specs.Fields.{senderOf, methodOf}
 use Rattle.message.specs.declared.Kind.the-variants.{Esi, Suo, Var}
+use Rattle.message.specs.declared.Extent.the-variants.{Whole, CutShort}
 use Rattle.checks.specs.Checks.{keyOr0}
 use Rattle.verdict.specs.Outcomes.{esiOutcome, esiTable, frameOutcome, frameTable}
-use Rattle.checks.specs.declared.Collected.{Collected}
+use Rattle.message.specs.declared.Collected.{Collected}
 use Rattle.checks.specs.declared.Frame.{Frame}
 use Rattle.checks.specs.declared.Occasion.{Occasion}
 use Rattle.verdict.specs.declared.Outcome.{Outcome}
@@ -25,7 +25,7 @@ use Rattle.reply.specs.declared.Answering.{Answering}
 use Rattle.answers.specs.Answers.{bareAnswer, verdictAnswer}
 use Rattle.answers.specs.declared.Opening.{Opening}
 use Rattle.whole.specs.Records.{Record, Item, line, pastSize, itemsOf}
-use Rattle.whole.specs.Messages.{begins, aloneOf, wantsMore, collectedAs, oneTimeOf}
+use Rattle.whole.specs.Messages.{begins, extentOf, isWhole, wantsMore, collectedAs, onceOf}
 
 -- ---- between two records
 
@@ -99,7 +99,7 @@ esiEnds o s m =
 -- a SUO, faulty or not, opens a frame
 unfoldable pub suoEnds : Standing → Collected → Step
 suoEnds s m =
-    silent (moved s (inFrame (record { suo = m; once = oneTimeOf (s .table) (m .text); records = [] })))
+    silent (moved s (inFrame (record { suo = m; once = onceOf (s .table) m; records = [] })))
 
 -- the frame as it is judged: the digest uses the one-time key and the method that the SUO names
 unfoldable pub frameOf : Opened → Collected → Frame
@@ -123,29 +123,29 @@ varEnds o s f m =
 
 unfoldable pub esiGoesOn : Opening → Standing → List ℕ → Step
 esiGoesOn o s chars =
-    pick (wantsMore Esi chars) (silent (moved s (collectingEsi chars))) (esiEnds o s (collectedAs Esi 0 chars))
+    pick (wantsMore Esi chars) (silent (moved s (collectingEsi chars))) (esiEnds o s (collectedAs Esi Whole chars))
 
 unfoldable pub suoGoesOn : Standing → List ℕ → Step
 suoGoesOn s chars =
-    pick (wantsMore Suo chars) (silent (moved s (collectingSuo chars))) (suoEnds s (collectedAs Suo 0 chars))
+    pick (wantsMore Suo chars) (silent (moved s (collectingSuo chars))) (suoEnds s (collectedAs Suo Whole chars))
 
 unfoldable pub varGoesOn : Opening → Standing → Opened → List ℕ → Step
 varGoesOn o s f chars =
-    pick (wantsMore Var chars) (silent (moved s (collectingVar chars f))) (varEnds o s f (collectedAs Var 0 chars))
+    pick (wantsMore Var chars) (silent (moved s (collectingVar chars f))) (varEnds o s f (collectedAs Var Whole chars))
 
 -- ---- a message's first record
 
 unfoldable pub esiStarts : Opening → Standing → List ℕ → Step
 esiStarts o s chars =
-    pick (eqb (aloneOf Esi chars) 0) (esiGoesOn o s chars) (esiEnds o s (collectedAs Esi (aloneOf Esi chars) chars))
+    pick (isWhole (extentOf Esi chars)) (esiGoesOn o s chars) (esiEnds o s (collectedAs Esi (extentOf Esi chars) chars))
 
 unfoldable pub suoStarts : Standing → List ℕ → Step
 suoStarts s chars =
-    pick (eqb (aloneOf Suo chars) 0) (suoGoesOn s chars) (suoEnds s (collectedAs Suo (aloneOf Suo chars) chars))
+    pick (isWhole (extentOf Suo chars)) (suoGoesOn s chars) (suoEnds s (collectedAs Suo (extentOf Suo chars) chars))
 
 unfoldable pub varStarts : Opening → Standing → Opened → List ℕ → Step
 varStarts o s f chars =
-    pick (eqb (aloneOf Var chars) 0) (varGoesOn o s f chars) (varEnds o s f (collectedAs Var (aloneOf Var chars) chars))
+    pick (isWhole (extentOf Var chars)) (varGoesOn o s f chars) (varEnds o s f (collectedAs Var (extentOf Var chars) chars))
 
 -- ---- a record
 
@@ -196,11 +196,11 @@ pastIn o s closed = silent s
 
 unfoldable pub endIn : Opening → Standing → Situation → Step
 endIn o s beforeEsi = silent s
-endIn o s (collectingEsi sofar) = esiEnds o s (collectedAs Esi 1 sofar)
+endIn o s (collectingEsi sofar) = esiEnds o s (collectedAs Esi CutShort sofar)
 endIn o s (outside told) = silent s
 endIn o s (collectingSuo sofar) = pteSays o s 1032 (moved s closed)
 endIn o s (inFrame f) = pteSays o s 1024 (moved s closed)
-endIn o s (collectingVar sofar f) = varEnds o s f (collectedAs Var 1 sofar)
+endIn o s (collectingVar sofar f) = varEnds o s f (collectedAs Var CutShort sofar)
 endIn o s closed = silent s
 
 -- ---- the whole file

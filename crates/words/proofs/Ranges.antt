@@ -1,10 +1,9 @@
 -- Bytes a read: the number is tested against both ends.
 -- Assumes nothing.
-use mathlib.Core.Path.{_≡_, refl, sym, ap, _∙_}
+use mathlib.Core.Path.{_≡_, sym, ap, _∙_}
 use mathlib.Core.List.{List}
 use Prim.Native.Nat.{ℕ, _≤_, _<_}
 use Rattle.ground.proofs.Choices.{picks, skips, between-below, between-above, between-in}
-use Rattle.words.specs.declared.Number.{Number}
 use Rattle.words.specs.declared.Number.the-variants.{Is, Bad}
 use Rattle.words.specs.Forms.{numberOf, inRange, readOf}
 

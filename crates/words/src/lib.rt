@@ -1,10 +1,13 @@
 // The forms of the program's words: numbers, keys, names, types, yes or no, and a file of holidays. A word of another form is bad.
 ghost use mathlib.Core.Path.{_≡_};
-ghost use Prim.Native.Nat.{_≤_};
+ghost use mathlib.Core.List.{[], _∷_, map};
+ghost use Prim.Native.Nat.{_+_};
 ghost use lib.Dec.{leb};
-ghost use lib.ListN.{length};
+ghost use lib.ListN.{length, drop};
 ghost use Rattle.text.specs.Characters.{padded};
+ghost use Rattle.words.specs.Parts.{upTo, splitAt};
 ghost use Rattle.words.specs.Forms.{numberOf, readOf, blockOf, choiceOf, whoOf};
+ghost use Rattle.words.specs.Forms.{bitOf, withTypes, typesOf, withoutCr, dateOf, holidaysOf};
 
 // A number, or a word of another form.
 pub enum Number {
@@ -25,13 +28,6 @@ pub struct Dates {
     pub line: u32,
     pub count: usize,
     pub dates: [u32; 201],
-}
-
-// The types heard so far, and the number on its way (0: none).
-struct Listed {
-    good: bool,
-    mask: u32,
-    number: u32,
 }
 
 // A word of `low` to `high` digits.
@@ -122,86 +118,15 @@ pub fn software(s: &[u8]) -> [u8; 16]
     name
 }
 
-// ---- types
+// ---- parts
 
-fn is_type(n: u32) -> bool {
-    1 <= n && n <= 16
-}
-
-// Type k is bit k - 1.
-fn type_bit(n: u32) -> u32 {
-    if n < 1 {
-        return 0;
-    }
-    if 16 < n {
-        return 0;
-    }
-    1 << (n - 1)
-}
-
-// What a digit adds to a number below 2, which is as far as a type's first digit goes.
-fn longer(n: u32, c: u8) -> u32 {
-    if 1 < n {
-        return 17;
-    }
-    if c < b'0' {
-        return 17;
-    }
-    if b'9' < c {
-        return 17;
-    }
-    n * 10 + (c - b'0') as u32
-}
-
-fn heard(mask: u32, n: u32, c: u8) -> Listed {
-    if c == b',' {
-        return Listed {
-            good: is_type(n),
-            mask: mask | type_bit(n),
-            number: 0,
-        };
-    }
-    let m = longer(n, c);
-    Listed {
-        good: is_type(m),
-        mask: mask,
-        number: m,
-    }
-}
-
-// Listed as `1,3,16`, or `-` for none.
-pub fn types(s: &[u8]) -> Number {
-    if text::same_bytes(s, b"-") {
-        return Number::Is(0);
-    }
-    let mut mask: u32 = 0;
-    let mut n: u32 = 0;
-    let mut i = 0;
-    while i < s.len() {
-        let t = heard(mask, n, s[i]);
-        if !t.good {
-            return Number::Bad;
-        }
-        mask = t.mask;
-        n = t.number;
-        i += 1;
-    }
-    if !is_type(n) {
-        return Number::Bad;
-    }
-    Number::Is(mask | type_bit(n))
-}
-
-// ---- holidays
-
-// Where the line that starts at `from` ends: at its LF, or at the end.
-fn line_end(s: &[u8], from: usize) -> usize
-    requires { ⌜ from ≤ length (now s) ⌝ }
-    ensures { λ r. ⌜ (from ≤ r) × (r ≤ length (now (s .entry))) ⌝ }
+// Where the part that starts at `from` ends: at the next byte `by`, or at the end.
+pub fn part_end(s: &[u8], from: usize, by: u8) -> usize
+    ensures { λ r. ⌜ r ≡ from + length (upTo by (drop from (now (s .entry)))) ⌝ }
 {
     let mut i = from;
     while i < s.len() {
-        if s[i] == b'\n' {
+        if s[i] == by {
             return i;
         }
         i += 1;
@@ -209,56 +134,128 @@ fn line_end(s: &[u8], from: usize) -> usize
     i
 }
 
-// The same without one CR.
-fn text_end(s: &[u8], from: usize, end: usize) -> usize
-    requires { ⌜ (from ≤ end) × (end ≤ length (now s)) ⌝ }
-    ensures { λ r. ⌜ (from ≤ r) × (r ≤ end) ⌝ }
+// ---- types
+
+// The bit of a type of one digit.
+fn one_digit(c: u8) -> u32
+    ensures { λ r. ⌜ r ≡ bitOf (c ∷ []) ⌝ }
 {
-    if end == from {
-        return end;
+    if c < b'1' {
+        return 16;
     }
-    if s[end - 1] == b'\r' {
-        return end - 1;
+    if b'9' < c {
+        return 16;
     }
-    end
+    (c - b'1') as u32
 }
 
-// The date of the line from `from` to `end`.
-fn line_date(s: &[u8], from: usize, end: usize) -> Number
-    requires { ⌜ (from ≤ end) × (end ≤ length (now s)) ⌝ }
+// The bit of a type of two digits, the first of which is 1.
+fn two_digits(c: u8) -> u32
+    ensures { λ r. ⌜ r ≡ bitOf (0x31 ∷ c ∷ []) ⌝ }
 {
-    let stop = text_end(s, from, end);
-    digits(&s[from..stop], 6, 6)
+    if c < b'0' {
+        return 16;
+    }
+    if b'6' < c {
+        return 16;
+    }
+    (c - b'0') as u32 + 9
+}
+
+// The bit of a type, or 16 for any other text.
+fn type_bit(p: &[u8]) -> u32
+    ensures { λ r. ⌜ r ≡ bitOf (now (p .entry)) ⌝ }
+{
+    if p.len() == 1 {
+        return one_digit(p[0]);
+    }
+    if p.len() != 2 {
+        return 16;
+    }
+    if p[0] != b'1' {
+        return 16;
+    }
+    two_digits(p[1])
+}
+
+// Listed as `1,3,16`, or `-` for none.
+pub fn types(s: &[u8]) -> Number
+    ensures { λ r. ⌜ r ≡ typesOf (now (s .entry)) ⌝ }
+{
+    if text::same_bytes(s, b"-") {
+        return Number::Is(0);
+    }
+    listed(s)
+}
+
+fn listed(s: &[u8]) -> Number
+    ensures { λ r. ⌜ r ≡ withTypes 0 (map bitOf (splitAt 0x2C (now (s .entry)))) ⌝ }
+{
+    let mut set: u32 = 0;
+    let mut at = 0;
+    while at <= s.len() {
+        let end = part_end(s, at, b',');
+        let k = type_bit(&s[at..end]);
+        if 15 < k {
+            return Number::Bad;
+        }
+        set = set | (1 << k);
+        at = end + 1;
+    }
+    Number::Is(set)
+}
+
+// ---- holidays
+
+// A line without one CR at its end.
+fn without_cr(line: &[u8]) -> &[u8]
+    ensures { λ r. ⌜ now r ≡ withoutCr (now (line .entry)) ⌝ }
+{
+    if line.len() == 0 {
+        return line;
+    }
+    let last = line.len() - 1;
+    if line[last] != b'\r' {
+        return line;
+    }
+    &line[..last]
+}
+
+fn date_in(line: &[u8]) -> Number
+    ensures { λ r. ⌜ r ≡ dateOf (now (line .entry)) ⌝ }
+{
+    digits(without_cr(line), 6, 6)
 }
 
 // A file of holidays: a date a line, which LF or CR LF ends.
-pub fn holidays(s: &[u8]) -> Dates {
-    let mut d = Dates {
-        good: true,
-        line: 0,
-        count: 0,
-        dates: [0; 201],
-    };
-    let mut at = 0;
+pub fn holidays(s: &[u8]) -> Dates
+    ensures { λ r. ⌜ r ≡ holidaysOf (now (s .entry)) ⌝ }
+{
+    let mut dates = [0u32; 201];
     let mut count = 0;
+    let mut at = 0;
     while at < s.len() {
         if count == 201 {
-            return d;
+            break;
         }
-        let end = line_end(s, at);
-        let date = line_date(s, at, end);
-        d.line = (count + 1) as u32;
+        let end = part_end(s, at, b'\n');
+        let date = date_in(&s[at..end]);
         let Number::Is(n) = date else {
-            d.good = false;
-            return d;
+            return Dates {
+                good: false,
+                line: (count + 1) as u32,
+                count,
+                dates,
+            };
         };
-        d.dates[count] = n;
+        dates[count] = n;
         count += 1;
-        d.count = count;
-        if end == s.len() {
-            return d;
-        }
         at = end + 1;
     }
-    d
+    Dates {
+        good: true,
+        line: count as u32,
+        count,
+        dates,
+    }
 }

@@ -24,20 +24,22 @@ use Rattle.acceptance.specs.Stamps.{holdsStamp, liveOf, onceUsed, withStamp}
 use Rattle.table.specs.Named.{customerAt, replacedAt, withNamed}
 use Rattle.table.specs.Table.{previousFits, customerFits, settingsFit, rising, placeFrom, isUnknown, distinct, eachSound, soundTable, placeOf, nobody, customerIn, withCustomer, withAdded, withDay, withSeed}
 use Rattle.message.specs.Layout.{total, offsetIn, widthIn, nameIn, fieldText, layout, layoutLength}
-use Rattle.message.specs.Rules.{hexFields, formatHolds, oneOf, methods, commonRules, ownRules, obeys, valueHolds, firstBroken, orElse, firstFault, faultOf}
+use Rattle.message.specs.Order.{firstFailing}
+use Rattle.message.specs.Rules.{hexFields, formatHolds, oneOf, methods, commonRules, ownRules, obeys, isShort, formatFails, valueFails, eachField, formChecks}
 use Rattle.message.specs.Fields.{receiverOf, senderOf, stampTextOf, stampOf, dateOfStamp, versionOf, methodOf, transportGenerationOf, workingGenerationOf, onceFieldOf, digestFieldOf, checksumFieldOf, requestOf}
-use Rattle.checks.specs.Checks.{firstFailing, typeAllowed, checksumDiffers, digestDiffers, isMissing, keyOr0, faultIs, faultField, formChecks, partyChecks, stampChecks, roomChecks, esiChecks, pairChecks, keyChecks, frameChecks}
-use Rattle.verdict.specs.Outcomes.{grantTo, recordAfter, tableAfter, outcomeOf, tableBy, esiOutcome, esiTable, frameOutcome, frameTable, storedAt, bytesAfter, bytesBy, esiLeaves, frameLeaves}
+use Rattle.checks.specs.Checks.{typeAllowed, checksumDiffers, digestDiffers, isMissing, keyOr0, partyChecks, stampChecks, roomChecks, esiKeyChecks, typeChecks, esiChecks, pairChecks, keyChecks, frameChecks}
+use Rattle.verdict.specs.Outcomes.{grantTo, recordAfter, tableAfter, outcomeOf, isSound, tableBy, esiOutcome, esiTable, frameOutcome, frameTable, storedAt, bytesAfter, bytesBy, esiLeaves, frameLeaves}
 use Rattle.notice.specs.Codes.{codeIn, fieldName, textOf}
 use Rattle.reply.specs.Reply.{clockText, noticeOf, hexOr, sealed, sealedFlag, opening, fullBody, bareBody, head, summed, checksumKey, enclosedKey, replyOf, replyLength, replied, writtenLength}
-use Rattle.answers.specs.Answers.{bareAnswer, verdictAnswer}
+use Rattle.answers.specs.Answers.{bareAnswer, fullAnswer, verdictAnswer}
 use Rattle.whole.specs.WholeFile.{moved, silent, replies, esiSays, pteSays, occasion, afterEsi, esiEnds, suoEnds, frameOf, varEnds, esiGoesOn, suoGoesOn, varGoesOn, esiStarts, suoStarts, varStarts, firstRecord, outsideRecord, withRecord, frameRecord, recordIn, pastIn, endIn, givenAt, sooner, toldOf, atStart, wholeFile}
-use Rattle.whole.specs.Messages.{begins, aloneOf, wantsMore, collectedAs, oneTime, oneTimeOf}
+use Rattle.whole.specs.Messages.{begins, extentOf, isWhole, wantsMore, collectedAs, oneTime, transportHeld, oneTimeOf, onceOf}
 use Rattle.whole.specs.Records.{withoutCr, lastItem, grown, endedBy, itemsFrom}
-use Rattle.worked_files.specs.Files.{hello, bank, shown, answers, line, esi, goesOn}
+use Rattle.worked.specs.Bank.{bankWith, esi, suo, var}
+use Rattle.worked_files.specs.Files.{hello, shown, answers, line, goesOn, lateStanding, lateAnswers}
 use Rattle.worked.specs.Examples.{holdAll}
 use Rattle.worked_files.specs.Files.{earlyFiles}
 
 pub early-files : holdAll earlyFiles ≡ true
-unfolding all member same part overlay both either fails pick one between letters digitValue hexValue decimalFrom hexFrom hexCharacter hexDigits decimalDigits fieldCharacter internal hexDigit padded select box substituteFrom mixed feistel cipherBy rotated keysFrom scheduleOf row times named isEmpty stripped keptOf kept answerOf digestOf bytesFrom blockOf blocksFrom chained mac checksumOf leap daysIn realDate realTime earlier yearsBefore monthsBefore dayNumber inYear fromYear dateOf later bankingDay bankingAmong bankingDaysAfter tooOld firstGood earliestGood ones parityByte parityBytes oddBytes combined checkValue workingKey0 nextGeneration random madeOf clockValue soundPrevious soundKeys realStamp soundOnce soundStamps soundCustomer soundName soundWho soundSettings previousNamed heldKey previousGood goodFor changing changed withKeys withTransport withWorking withoutPrevious underPrevious newKey underCurrent grantedBy holdsStamp liveOf onceUsed withStamp customerAt replacedAt withNamed previousFits customerFits settingsFit rising placeFrom isUnknown distinct eachSound soundTable placeOf nobody customerIn withCustomer withAdded withDay withSeed total offsetIn widthIn nameIn fieldText layout layoutLength hexFields formatHolds oneOf methods commonRules ownRules obeys valueHolds firstBroken orElse firstFault faultOf receiverOf senderOf stampTextOf stampOf dateOfStamp versionOf methodOf transportGenerationOf workingGenerationOf onceFieldOf digestFieldOf checksumFieldOf requestOf firstFailing typeAllowed checksumDiffers digestDiffers isMissing keyOr0 faultIs faultField formChecks partyChecks stampChecks roomChecks esiChecks pairChecks keyChecks frameChecks grantTo recordAfter tableAfter outcomeOf tableBy esiOutcome esiTable frameOutcome frameTable storedAt bytesAfter bytesBy esiLeaves frameLeaves codeIn fieldName textOf clockText noticeOf hexOr sealed sealedFlag opening fullBody bareBody head summed checksumKey enclosedKey replyOf replyLength replied writtenLength bareAnswer verdictAnswer moved silent replies esiSays pteSays occasion afterEsi esiEnds suoEnds frameOf varEnds esiGoesOn suoGoesOn varGoesOn esiStarts suoStarts varStarts firstRecord outsideRecord withRecord frameRecord recordIn pastIn endIn givenAt sooner toldOf atStart wholeFile begins Rattle.whole.specs.Messages.textOf aloneOf wantsMore collectedAs oneTime oneTimeOf withoutCr lastItem grown endedBy itemsFrom bank shown answers line esi goesOn holdAll hello Rattle.worked_files.specs.Files.replied Rattle.worked_files.specs.Files.opening
+unfolding all member same part overlay both either fails pick one between letters digitValue hexValue decimalFrom hexFrom hexCharacter hexDigits decimalDigits fieldCharacter internal hexDigit padded select box substituteFrom mixed feistel cipherBy rotated keysFrom scheduleOf row times named isEmpty stripped keptOf kept answerOf digestOf bytesFrom blockOf blocksFrom chained mac checksumOf leap daysIn realDate realTime earlier yearsBefore monthsBefore dayNumber inYear fromYear dateOf later bankingDay bankingAmong bankingDaysAfter tooOld firstGood earliestGood ones parityByte parityBytes oddBytes combined checkValue workingKey0 nextGeneration random madeOf clockValue soundPrevious soundKeys realStamp soundOnce soundStamps soundCustomer soundName soundWho soundSettings previousNamed heldKey previousGood goodFor changing changed withKeys withTransport withWorking withoutPrevious underPrevious newKey underCurrent grantedBy holdsStamp liveOf onceUsed withStamp customerAt replacedAt withNamed previousFits customerFits settingsFit rising placeFrom isUnknown distinct eachSound soundTable placeOf nobody customerIn withCustomer withAdded withDay withSeed total offsetIn widthIn nameIn fieldText layout layoutLength hexFields formatHolds oneOf methods commonRules ownRules obeys isShort formatFails valueFails eachField formChecks receiverOf senderOf stampTextOf stampOf dateOfStamp versionOf methodOf transportGenerationOf workingGenerationOf onceFieldOf digestFieldOf checksumFieldOf requestOf firstFailing typeAllowed checksumDiffers digestDiffers isMissing keyOr0 partyChecks stampChecks roomChecks esiKeyChecks typeChecks esiChecks pairChecks keyChecks frameChecks grantTo recordAfter tableAfter outcomeOf isSound tableBy esiOutcome esiTable frameOutcome frameTable storedAt bytesAfter bytesBy esiLeaves frameLeaves codeIn fieldName textOf clockText noticeOf hexOr sealed sealedFlag opening fullBody bareBody head summed checksumKey enclosedKey replyOf replyLength replied writtenLength bareAnswer fullAnswer verdictAnswer moved silent replies esiSays pteSays occasion afterEsi esiEnds suoEnds frameOf varEnds esiGoesOn suoGoesOn varGoesOn esiStarts suoStarts varStarts firstRecord outsideRecord withRecord frameRecord recordIn pastIn endIn givenAt sooner toldOf atStart wholeFile begins Rattle.whole.specs.Messages.textOf extentOf isWhole wantsMore collectedAs oneTime transportHeld oneTimeOf onceOf withoutCr lastItem grown endedBy itemsFrom bankWith esi suo var shown answers line goesOn lateStanding lateAnswers holdAll hello Rattle.worked_files.specs.Files.replied Rattle.worked_files.specs.Files.opening
 early-files = refl

@@ -1,3 +1,5 @@
 -- The statements.
 pub mod Early
 pub mod Later
+pub mod Long
+pub mod Batch

@@ -1,48 +1,19 @@
 -- Small files, and what the whole-file answer says to each (document 01, 'Reading the file').
 -- Assumes nothing.
-use Prim.Native.Nat.{ℕ}
+use Prim.Native.Nat.{ℕ, _+_}
 use Prim.Native.String.{String}
-use mathlib.Core.Bool.{Bool, true}
+use mathlib.Core.Bool.{Bool, false}
 use mathlib.Core.List.{List, [], _∷_, _++_}
 use lib.ListN.{length, take, drop, replicate}
 use Rattle.ground.specs.Lists.{same}
 use Rattle.text.specs.Characters.{blank}
 use Rattle.text.specs.Numbers.{decimal}
 use Rattle.text.specs.Letters.{letters}
-use Rattle.customer.specs.declared.Previous.the-variants.{Nothing}
-use Rattle.table.specs.Table.{Table}
 use Rattle.message.specs.Layout.{fieldText}
 use Rattle.answers.specs.declared.Opening.{Opening}
-use Rattle.whole.specs.Records.{lf, cr}
-use Rattle.whole.specs.WholeFile.{Given, wholeFile}
-
--- a bank with the customer 12345678, whose keys are those of document 001's appendix 3
-unfoldable pub bank : Table
-bank =
-    record {
-      day = 941017;
-      settings =
-          record {
-            bank = letters "003701234567" ++ replicate 13 blank;
-            software = letters "FRONT 4" ++ replicate 9 blank;
-            floor = 110;
-            maker = record { key = 0; seed = 0 };
-          };
-      holidays = [];
-      customers =
-          record {
-            who = letters "12345678" ++ replicate 17 blank;
-            types = 1;
-            agreed = true;
-            leave = true;
-            length = 30;
-            transport = record { generation = 1; key = 0x379723239789FD9D; previous = Nothing };
-            working = record { generation = 0; key = 0xAEBAE983D6406D07; previous = Nothing };
-            count = 0;
-            stamps = replicate 64 0;
-            once = replicate 64 0;
-          } ∷ [];
-    }
+use Rattle.whole.specs.Records.{lf, cr, itemsFrom}
+use Rattle.whole.specs.WholeFile.{Given, Standing, outside, toldOf, wholeFile}
+use Rattle.worked.specs.Bank.{bankWith, esi, suo, var}
 
 unfoldable pub opening : Opening
 opening = record { today = record { yymmdd = 941017 }; time = 091500; kind = 1; clock = 0 }
@@ -53,7 +24,7 @@ shown [] = []
 shown (g ∷ l) = g .at ∷ length (g .reply) ∷ decimal (fieldText 50 (g .reply)) ∷ shown l
 
 unfoldable pub answers : List ℕ → List ℕ → Bool
-answers file expected = same (shown (wholeFile opening bank file .given)) expected
+answers file expected = same (shown (wholeFile opening (bankWith []) file .given)) expected
 
 -- a line
 unfoldable pub line : String → List ℕ
@@ -81,7 +52,7 @@ hello =
 abbrev pub earlyFiles : List Bool
 earlyFiles =
     -- HELLO, with the whole reply of document 01; an empty file; a lone LF
-    same (replied (wholeFile opening bank (letters "HELLO") .given)) hello ∷
+    same (replied (wholeFile opening (bankWith []) (letters "HELLO") .given)) hello ∷
     answers (letters "HELLO") (5 ∷ 237 ∷ 1010 ∷ []) ∷
     answers [] [] ∷
     answers (lf ∷ []) (1 ∷ 237 ∷ 1010 ∷ []) ∷
@@ -99,12 +70,6 @@ earlyFiles =
     answers (line ">>SUO128120" ++ line ">>ESI161120") (12 ∷ 237 ∷ 1010 ∷ []) ∷ []
 
 -- ---- after it
-
-unfoldable pub esi : List ℕ
-esi =
-    letters ">>ESI161120 0000PAYROLL 1       SMH003701234567             12345678                 10941015073000001" ++
-    replicate 42 blank ++
-    letters "C616A9B4CECEDF090"
 
 -- a file that begins with that ESI, which is accepted: 1001 after 162 bytes
 unfoldable pub goesOn : List ℕ → List ℕ → Bool
@@ -129,3 +94,35 @@ laterFiles =
     answers (esi ++ (cr ∷ [])) (162 ∷ 237 ∷ 1010 ∷ []) ∷
     -- a message over several records, and blanks over in the last one
     answers (take 80 esi ++ (lf ∷ []) ++ drop 80 esi ++ letters "  " ++ (lf ∷ [])) (165 ∷ 237 ∷ 1001 ∷ []) ∷ []
+
+-- ---- a batch after the ESI: accepted, its VAR ends 129 + 12 + 6 + 162 bytes on; and with one character of its data changed
+
+unfoldable pub batch : String → List ℕ
+batch amount = suo ++ (lf ∷ []) ++ line "PAYMENT 1  " ++ line amount ++ var ++ (lf ∷ [])
+
+abbrev pub goodBatch : Bool
+goodBatch = goesOn (batch "12.50") (471 ∷ 317 ∷ 1001 ∷ [])
+
+abbrev pub changedBatch : Bool
+changedBatch = goesOn (batch "12.51") (471 ∷ 317 ∷ 1019 ∷ [])
+
+-- ---- near the size limit
+
+-- outside a frame, after an accepted ESI
+unfoldable pub lateStanding : Standing
+lateStanding = record { situation = outside false; table = bankWith []; made = 0; sender = replicate 25 0 }
+
+-- what is answered to the last bytes of a file of which all but these were read
+unfoldable pub lateAnswers : ℕ → List ℕ → List ℕ → Bool
+lateAnswers at rest expected =
+    same (shown (toldOf opening (at + length rest) lateStanding (itemsFrom at [] rest) .given)) expected
+
+abbrev pub longFiles : List Bool
+longFiles =
+    -- a record whose LF is the last byte allowed is settled, and the byte past it gives 1034, whatever it is
+    lateAnswers 4294967293 (letters "A" ++ (lf ∷ [])) (4294967295 ∷ 317 ∷ 1023 ∷ []) ∷
+    lateAnswers 4294967293 (letters "A" ++ (lf ∷ lf ∷ [])) (4294967295 ∷ 317 ∷ 1023 ∷ 4294967296 ∷ 317 ∷ 1034 ∷ []) ∷
+    lateAnswers 4294967293 (letters "AB" ++ (lf ∷ [])) (4294967296 ∷ 317 ∷ 1034 ∷ []) ∷
+    -- a file of exactly the limit ends normally, and an open frame past it gets nothing else
+    lateAnswers 4294967293 (letters "AB") (4294967295 ∷ 317 ∷ 1023 ∷ []) ∷
+    lateAnswers 4294967284 (line ">>SUO12812" ++ letters "AB") (4294967296 ∷ 317 ∷ 1034 ∷ []) ∷ []

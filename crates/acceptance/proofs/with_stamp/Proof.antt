@@ -23,12 +23,12 @@ mul-beside c = search needs
 array-write-beside : tie.Need-array-write-beside
 array-write-beside c = search needs
 
-add-t20 : tie.Need-add-t20
-add-t20 c = search needs
+add-t21 : tie.Need-add-t21
+add-t21 c = search needs
 
 returns : tie.Need-returns
 returns c =
-    let i = c .before .before .before in
+    let i = c .before .before .before .before in
     let k = i .before .before .before .keep-live .ensures in
     ⊎-elim (λ w. marked-more _ _ _ _ _ _ _ _ _ _ (k .0) (k .1) (w .0 .taken) (w .1) (w .2))
     (λ w. marked-full _ _ _ _ _ _ _ _ _ _ (k .0) (k .1) (w .0 .left) (w .1) (w .2))
@@ -44,5 +44,5 @@ with-stamp-spec =
     array-write-stamps
     mul-beside
     array-write-beside
-    add-t20
+    add-t21
     returns)

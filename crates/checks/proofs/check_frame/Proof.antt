@@ -1,4 +1,5 @@
 -- The parts of the order are looked at one after the other.
+use Rattle.checks.specs.Checks.{typeChecks}
 use Rattle.checks.proofs.Tables.{lent-room, lent-count, lent-dates}
 use Rattle.checks.proofs.Faults.{frame-first}
 use Rattle.checks.proofs.Order.{one}
@@ -82,6 +83,7 @@ or-else-requires-7 : tie.Need-or-else-requires-7
 or-else-requires-7 c κs = search needs
 
 returns : tie.Need-returns
+unfolding typeChecks
 returns c =
     let h = lent-dates _ _ (c .before .before .before .before .before .before .before .before .before .before .before .before .before .before .before .before .before .before .before .before .before .holidays-in .ensures) in
     frame-first _ _ _ _ _ (c .before .before .before .before .before .before .before .before .before .before .before .before .before .before .before .before .before .before .before .before .before .before .customer-of .ensures) (c .or-else7 .ensures) (c .before .or-else6 .ensures) (c .before .before .or-else5 .ensures) (c .before .before .before .or-else4 .ensures) (c .before .before .before .before .or-else3 .ensures) (c .before .before .before .before .before .or-else2 .ensures) (c .before .before .before .before .before .before .or-else .ensures)

@@ -3,7 +3,7 @@ use mathlib.Core.Path.{ap, ap₂, _∙_}
 use Rattle.changeover.specs.Held.{heldKey, goodFor}
 use Rattle.changeover.specs.declared.Key.{Key}
 use Rattle.customer.proofs.Chain.{turned}
-use Rattle.checks.specs.Checks.{checksumDiffers}
+use Rattle.checks.specs.Checks.{checksumDiffers, esiKeyChecks}
 use Rattle.checks.proofs.Order.{one, next}
 use borrow.Author.Needs.{needs}
 use Rattle.checks.proofs.esi_key_faults.Statement.{statement}
@@ -46,6 +46,7 @@ or-else-requires-2 : tie.Need-or-else-requires-2
 or-else-requires-2 c κs = search needs
 
 returns : tie.Need-returns
+unfolding esiKeyChecks
 returns c =
     let a = c .before .before .before .before .before .before .before .before .before .before .before .before .before .before .args in
     let d = c .before .before .before .before .before .before .before .before .before .before .before .before .before .date .ensures in

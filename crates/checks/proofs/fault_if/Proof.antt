@@ -1,6 +1,6 @@
 -- The test decides.
 use Rattle.ground.specs.Choice.{pick}
-use Rattle.checks.specs.Checks.{firstFailing}
+use Rattle.message.specs.Order.{firstFailing}
 use Rattle.checks.proofs.fault_if.Statement.{statement}
 use Rattle.checks.proofs.fault_if.Tie as tie
 

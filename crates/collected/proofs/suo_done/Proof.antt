@@ -6,8 +6,8 @@ use Rattle.collected.proofs.suo_done.Tie as tie
 collected-by-requires : tie.Need-collected-by-requires
 collected-by-requires c κs = tt
 
-one-time-of-requires : tie.Need-one-time-of-requires
-one-time-of-requires c κs = tt
+once-of-requires : tie.Need-once-of-requires
+once-of-requires c κs = tt
 
 start-requires : tie.Need-start-requires
 start-requires c κs = tt
@@ -25,14 +25,14 @@ with-batch-requires : tie.Need-with-batch-requires
 with-batch-requires c κs = tt
 
 returns : tie.Need-returns
-returns c = suo-made _ (c .before .before .no-characters .ensures) (c .before .at-place .ensures) _ _ (c .before .before .before .before .before .before .before .collected-by .ensures) (c .before .before .before .before .before .one-time-of .ensures) (c .before .before .before .before .start .ensures) (c .before .before .before .at-record .ensures) (c .with-batch .ensures)
+returns c = suo-made _ (c .before .before .no-characters .ensures) (c .before .at-place .ensures) _ _ (c .before .before .before .before .before .before .collected-by .ensures) (c .before .before .before .before .before .once-of .ensures) (c .before .before .before .before .start .ensures) (c .before .before .before .at-record .ensures) (c .with-batch .ensures)
 
 pub suo-done-spec : {M : Type 1} → statement M
 suo-done-spec =
     tie.close
     (tie.spec
     collected-by-requires
-    one-time-of-requires
+    once-of-requires
     start-requires
     at-record-requires
     no-characters-requires

@@ -10,14 +10,14 @@ enum-known-l c = search needs
 
 returns : tie.Need-returns
 unfolding badLength
-returns c = rw (c .before .before .l .given .1) (too-short _ (c .if1 .taken))
+returns c = rw (c .before .before .before .l .given .1) (too-short _ (c .if1 .taken))
 
 enum-told : tie.Need-enum-told
 enum-told c = search needs
 
 returns-2 : tie.Need-returns-2
 unfolding badLength
-returns-2 c = rw (c .before .before .l .given .1) (too-long _ (c .if1 .left))
+returns-2 c = rw (c .before .before .before .before .l .given .1) (too-long _ (c .before .if1 .left))
 
 returns-3 : tie.Need-returns-3
 unfolding badLength

@@ -7,16 +7,16 @@ use Rattle.digest.proofs.took.Tie as tie
 internal-code-requires : tie.Need-internal-code-requires
 internal-code-requires c κs = search needs
 
-fed-requires : tie.Need-fed-requires
-fed-requires c κs = search needs
+feed-requires : tie.Need-feed-requires
+feed-requires c κs = search needs
 
 returns : tie.Need-returns
 returns c =
-    took-blank _ _ _ (rw (c .before .before .internal-code .ensures) at (c .before .fed .ensures)) (c .if1 .taken)
+    took-blank _ _ _ (rw (c .before .before .internal-code .ensures) at (c .before .feed .ensures)) (c .if1 .taken)
 
 returns-2 : tie.Need-returns-2
 returns-2 c =
-    took-other _ _ _ (rw (c .before .before .internal-code .ensures) at (c .before .fed .ensures)) (c .if1 .left)
+    took-other _ _ _ (rw (c .before .before .internal-code .ensures) at (c .before .feed .ensures)) (c .if1 .left)
 
 pub took-spec : {M : Type 1} → statement M
-took-spec = tie.close (tie.spec internal-code-requires fed-requires returns returns-2)
+took-spec = tie.close (tie.spec internal-code-requires feed-requires returns returns-2)

@@ -23,7 +23,9 @@ returns : tie.Need-returns
 returns c =
     let a = c .before .before .before .before .before .before .before .before .before .before .before .args in
     let d = c .before .before .before .before .before .before .«open» .ensures in
-    opening-made _ _ (asked-by _ (a .today) (a .time) (a .kind) (a .clock) (c .before .before .before .before .before .before .before .before .kind-asked .ensures)) (d .0) (d .1) (c .before .before .put-opened .ensures)
+    let k = c .before .before .before .before .before .before .before .before .kind-asked .ensures in
+    let o = asked-by _ (a .today) (a .time) (a .kind) (a .clock) k in
+    opening-made _ _ (a .today) (a .time) (a .kind) (a .clock) o (d .answers) (d .leaves) (c .before .before .put-opened .ensures)
 
 pub lp-open-spec : {M : Type 1} → statement M
 lp-open-spec =

@@ -26,7 +26,8 @@ same-length-3 : tie.Need-same-length-3
 same-length-3 c = search needs
 
 returns : tie.Need-returns
-returns c = read-made _ _ _ _ (c .before .before .before .before .before .before .before .before .before .before .before .before .load .ensures) (c .before .before .before .before .before .before .before .before .before .read .ensures) (c .before .before .before .put-session .ensures) (c .packed-answer .ensures)
+returns c =
+    let k = c .before .before .before .before .before .before .before .before .before .read .ensures in read-made _ _ _ _ (c .before .before .before .before .before .before .before .before .before .before .before .before .load .ensures) (k .answers, (k .leaves, k .shows)) (c .before .before .before .put-session .ensures) (c .packed-answer .ensures)
 
 pub lp-read-spec : {M : Type 1} → statement M
 lp-read-spec =

@@ -1,5 +1,7 @@
 -- The call below is handed what the numbers and bytes say.
+use Rattle.calls.specs.Calls.{refusalOf, leftBy}
 use Rattle.edge.specs.Edge.{settingBy}
+use Rattle.edge.proofs.Made.{set-up-made}
 use borrow.Author.Needs.{needs}
 use Rattle.edge.proofs.lp_set_up.Statement.{statement}
 use Rattle.edge.proofs.lp_set_up.Tie as tie
@@ -17,8 +19,12 @@ same-length : tie.Need-same-length
 same-length c = search needs
 
 returns : tie.Need-returns
-unfolding settingBy
-returns c = rw (← c .before .before .before .before .before .fixed25 .ensures, ← c .before .before .before .before .fixed16 .ensures) (c .before .before .set-up .ensures)
+unfolding settingBy refusalOf leftBy
+returns c =
+    let k = c .before .before .set-up .ensures in
+    let bank = c .before .before .before .before .before .fixed25 .ensures in
+    let software = c .before .before .before .before .fixed16 .ensures in
+    set-up-made (rw (← bank, ← software) (k .answers, k .leaves))
 
 pub lp-set-up-spec : {M : Type 1} → statement M
 lp-set-up-spec =

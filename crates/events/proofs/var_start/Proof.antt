@@ -1,15 +1,18 @@
 -- A first record that stands alone is the message.
-use Prim.Native.Nat.{ℕ}
 use denote.Ref.{now}
+use Rattle.message.specs.declared.Extent.{Extent}
 use Rattle.message.specs.declared.Kind.the-variants.{Var}
 use Rattle.collected.proofs.Turns.{Gives, goes-on, alone}
-use Rattle.session.specs.Events.{aloneBy, collectedBy, varDone, varStart}
+use Rattle.session.specs.Events.{extentBy, collectedBy, varDone, varStart}
 use borrow.Author.Needs.{needs}
 use Rattle.events.proofs.var_start.Statement.{statement}
 use Rattle.events.proofs.var_start.Tie as tie
 
-alone-of-requires : tie.Need-alone-of-requires
-alone-of-requires c κs = tt
+extent-of-requires : tie.Need-extent-of-requires
+extent-of-requires c κs = tt
+
+is-whole-requires : tie.Need-is-whole-requires
+is-whole-requires c κs = tt
 
 var-on-requires : tie.Need-var-on-requires
 var-on-requires c κs = tt
@@ -18,8 +21,8 @@ same-length : tie.Need-same-length
 same-length c = search needs
 
 returns : tie.Need-returns
-unfolding varStart aloneBy
-returns c = goes-on (Gives _ _) _ (λ (n : ℕ). varDone (c .before .before .before .before .before .before .before .before .args .s) (now (c .before .before .before .before .before .before .before .before .args .t)) (collectedBy Var n (c .before .before .before .before .before .before .before .before .args .s .gathered))) _ _ (c .before .before .before .before .before .alone-of .ensures) (c .before .before .before .before .if1 .taken) (c .before .before .var-on .ensures)
+unfolding varStart extentBy
+returns c = goes-on (Gives _ _) _ (λ (n : Extent). varDone (c .before .before .before .before .before .before .before .before .before .args .s) (now (c .before .before .before .before .before .before .before .before .before .args .t)) (collectedBy Var n (c .before .before .before .before .before .before .before .before .before .args .s .gathered))) _ _ (c .before .before .before .before .before .before .extent-of .ensures) _ (c .before .before .before .before .before .is-whole .ensures) (c .before .before .before .before .if1 .taken) (c .before .before .var-on .ensures)
 
 var-done-requires : tie.Need-var-done-requires
 var-done-requires c κs = tt
@@ -28,14 +31,15 @@ same-length-2 : tie.Need-same-length-2
 same-length-2 c = search needs
 
 returns-2 : tie.Need-returns-2
-unfolding varStart aloneBy
-returns-2 c = alone (Gives _ _) _ (λ (n : ℕ). varDone (c .before .before .before .before .before .before .before .before .args .s) (now (c .before .before .before .before .before .before .before .before .args .t)) (collectedBy Var n (c .before .before .before .before .before .before .before .before .args .s .gathered))) _ _ (c .before .before .before .before .before .alone-of .ensures) (c .before .before .before .before .if1 .left) (c .before .before .var-done .ensures)
+unfolding varStart extentBy
+returns-2 c = alone (Gives _ _) _ (λ (n : Extent). varDone (c .before .before .before .before .before .before .before .before .before .args .s) (now (c .before .before .before .before .before .before .before .before .before .args .t)) (collectedBy Var n (c .before .before .before .before .before .before .before .before .before .args .s .gathered))) _ _ (c .before .before .before .before .before .before .extent-of .ensures) _ (c .before .before .before .before .before .is-whole .ensures) (c .before .before .before .before .if1 .left) (c .before .before .var-done .ensures)
 
 pub var-start-spec : {M : Type 1} → statement M
 var-start-spec =
     tie.close
     (tie.spec
-    alone-of-requires
+    extent-of-requires
+    is-whole-requires
     var-on-requires
     same-length
     returns

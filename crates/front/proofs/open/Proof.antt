@@ -10,7 +10,7 @@ same-length : tie.Need-same-length
 same-length c = search needs
 
 returns : tie.Need-returns
-returns c = c .before .before .«open» .ensures
+returns c = let k = c .before .before .«open» .ensures in record { answers = k .0; leaves = k .1 }
 
 pub open-spec : {M : Type 1} → statement M
 open-spec = tie.close (tie.spec open-requires same-length returns)

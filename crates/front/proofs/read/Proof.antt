@@ -13,7 +13,8 @@ same-length-2 : tie.Need-same-length-2
 same-length-2 c = search needs
 
 returns : tie.Need-returns
-returns c = c .before .before .before .before .read .ensures
+returns c =
+    let k = c .before .before .before .before .read .ensures in record { answers = k .0; leaves = k .1 .0; shows = k .1 .1 }
 
 pub read-spec : {M : Type 1} → statement M
 read-spec = tie.close (tie.spec read-requires same-length same-length-2 returns)

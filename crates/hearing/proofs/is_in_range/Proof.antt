@@ -1,9 +1,8 @@
 -- The first number out of its range decides, and past those in theirs the last one does.
-use mathlib.Core.Path.{refl}
 use native.Mathlib.Omega.{arith}
 use borrow.Author.Tests.{le-leb, lt-leb}
 use Rattle.ground.proofs.Choices.{between-in, between-below, between-above}
-use Rattle.customer.proofs.Chain.{stop, later, past, refused, passed}
+use Rattle.customer.proofs.Chain.{stop, later, past, refused, passed, turned}
 use Rattle.session.specs.Ranges.{inRange}
 use borrow.Author.Needs.{needs}
 use Rattle.hearing.proofs.is_in_range.Statement.{statement}
@@ -31,6 +30,9 @@ returns-4 c =
     let s = t .before .before .before .before .before .before .args .s in
     later _ _ (later _ _ (stop _ _ (lt-leb (s .gathered .count) 161 (omega arith))))
 
+is-cut-requires : tie.Need-is-cut-requires
+is-cut-requires c κs = search needs
+
 returns-5 : tie.Need-returns-5
 unfolding inRange
 returns-5 c =
@@ -38,8 +40,8 @@ returns-5 c =
     let s = t .before .before .before .before .before .before .args .s in
     past _ _ _ (passed (t .before .is-real-time .ensures) (t .if1 .left))
     (past _ _ _ (between-in 1 16 (s .opening .kind) (omega arith) (omega arith))
-    (past _ _ _ (le-leb (s .gathered .count) 161 (omega arith)) refl))
+    (past _ _ _ (le-leb (s .gathered .count) 161 (omega arith)) (turned (c .is-cut .ensures))))
 
 pub is-in-range-spec : {M : Type 1} → statement M
 is-in-range-spec =
-    tie.close (tie.spec is-real-time-requires returns returns-2 returns-3 returns-4 returns-5)
+    tie.close (tie.spec is-real-time-requires returns returns-2 returns-3 returns-4 is-cut-requires returns-5)

@@ -1,12 +1,16 @@
 -- Each arm makes the test of the rule that names the field, and no rule names any other.
 use mathlib.Core.Path.{refl, ap, ap₂, _∙_}
+use mathlib.Core.List.{[], _∷_}
 use mathlib.Core.Logic.{⊎-elim, inl, inr}
 use lib.Dec.{eqb, lit≤}
 use Rattle.ground.specs.Choice.{both, either, fails, pick}
+use Rattle.ground.specs.Lists.{same}
+use Rattle.text.specs.Characters.{allBlank}
+use Rattle.text.specs.Numbers.{decimal}
 use Rattle.text.specs.Letters.{letters}
 use Rattle.calendar.specs.Dates.{realDate, realTime}
-use Rattle.message.specs.Layout.{widthIn}
-use Rattle.message.specs.Rules.{commonRules, obeys}
+use Rattle.message.specs.Layout.{widthIn, layoutLength}
+use Rattle.message.specs.Rules.{oneOf, methods, commonRules, obeys}
 use Rattle.message.proofs.Places.{named-whole, named-fits}
 use Rattle.message.proofs.Tests.{asked, unasked, not-fails}
 use borrow.Author.Needs.{needs}
@@ -69,56 +73,56 @@ is-real-time-requires c κs = search needs
 
 returns : tie.Need-returns
 unfolding commonRules obeys both either fails widthIn pick
-returns c =
+returns c m q =
     ap₂ eqb
     (named-whole 20 _ _ (c .before .before .match .keys1) (c .before .before .before .before .pre) _ (c .before .number .ensures) (lit≤ tt))
     (c .length-of .ensures)
-    ∙ asked commonRules _ _ _ _ refl 20 _ (c .before .before .match .keys1) refl
+    ∙ asked commonRules _ _ _ m _ q refl 20 (λ text. eqb (decimal text) (layoutLength (c .before .before .before .before .args .k))) (c .before .before .match .keys1) refl
 
 returns-2 : tie.Need-returns-2
 unfolding commonRules letters obeys both either fails
-returns-2 c = c .one-of .ensures ∙ asked commonRules _ _ _ _ refl 30 _ (c .before .before .before .match .keys2) refl
+returns-2 c m q = c .one-of .ensures ∙ asked commonRules _ _ _ m _ q refl 30 (oneOf (letters "110" ∷ letters "120" ∷ [])) (c .before .before .before .match .keys2) refl
 
 returns-3 : tie.Need-returns-3
 unfolding commonRules obeys both either fails
-returns-3 c =
+returns-3 c m q =
     c .all-blank .ensures
-    ∙ ⊎-elim (λ e. asked commonRules _ _ _ _ refl 40 _ e refl) (λ e. asked commonRules _ _ _ _ refl 140 _ e refl) (c .before .match .keys3)
+    ∙ ⊎-elim (λ e. asked commonRules _ _ _ m _ q refl 40 allBlank e refl) (λ e. asked commonRules _ _ _ m _ q refl 140 allBlank e refl) (c .before .match .keys3)
 
 returns-4 : tie.Need-returns-4
 unfolding commonRules letters obeys both either fails
-returns-4 c = c .same-bytes .ensures ∙ asked commonRules _ _ _ _ refl 50 _ (c .before .before .match .keys4) refl
+returns-4 c m q = c .same-bytes .ensures ∙ asked commonRules _ _ _ m _ q refl 50 (same (letters "0000")) (c .before .before .match .keys4) refl
 
 returns-5 : tie.Need-returns-5
 unfolding commonRules obeys both either fails
-returns-5 c =
+returns-5 c m q =
     not-fails (c .all-blank2 .result)
     ∙ ap fails (c .all-blank2 .ensures)
-    ∙ asked commonRules _ _ _ _ refl 60 _ (c .before .match .keys5) refl
+    ∙ asked commonRules _ _ _ m _ q refl 60 (λ text. fails (allBlank text)) (c .before .match .keys5) refl
 
 returns-6 : tie.Need-returns-6
 unfolding commonRules obeys both either fails
-returns-6 c = c .method-holds .ensures ∙ asked commonRules _ _ _ _ refl 70 _ (c .before .match .keys6) refl
+returns-6 c m q = c .method-holds .ensures ∙ asked commonRules _ _ _ m _ q refl 70 (oneOf (methods _)) (c .before .match .keys6) refl
 
 returns-7 : tie.Need-returns-7
 unfolding commonRules obeys both either fails widthIn pick
-returns-7 c =
+returns-7 c m q =
     c .is-real .ensures
     ∙ ap realDate
     (named-whole 121 _ _ (c .before .before .match .keys7) (c .before .before .before .before .pre) _ (c .before .number2 .ensures) (lit≤ tt))
-    ∙ asked commonRules _ _ _ _ refl 121 _ (c .before .before .match .keys7) refl
+    ∙ asked commonRules _ _ _ m _ q refl 121 (λ text. realDate (decimal text)) (c .before .before .match .keys7) refl
 
 returns-8 : tie.Need-returns-8
 unfolding commonRules obeys both either fails widthIn pick
-returns-8 c =
+returns-8 c m q =
     c .is-real-time .ensures
     ∙ ap realTime
     (named-whole 122 _ _ (c .before .before .match .keys8) (c .before .before .before .before .pre) _ (c .before .number3 .ensures) (lit≤ tt))
-    ∙ asked commonRules _ _ _ _ refl 122 _ (c .before .before .match .keys8) refl
+    ∙ asked commonRules _ _ _ m _ q refl 122 (λ text. realTime (decimal text)) (c .before .before .match .keys8) refl
 
 returns-9 : tie.Need-returns-9
 unfolding commonRules
-returns-9 c = unasked commonRules _ _ _ _ refl (
+returns-9 c m q = unasked commonRules _ _ _ m refl (
   c .match .rest .0 .0 .0 .0 .0 .0 .0 .1,
   (
     c .match .rest .0 .0 .0 .0 .0 .0 .1,

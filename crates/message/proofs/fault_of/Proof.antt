@@ -1,66 +1,52 @@
--- A record alone is told by its number; else the format decides where it is broken, else the values.
-use Rattle.ground.specs.Choice.{pick}
-use Rattle.message.specs.Rules.{faultOf}
-use Rattle.message.proofs.Tests.{by-format, by-values}
+-- A message of one record alone, or cut short, is told by that; of a whole one each field is looked at.
+use Rattle.message.proofs.Tests.{too-short, cut-short, not-digits, other-length}
 use borrow.Author.Needs.{needs}
 use Rattle.message.proofs.fault_of.Statement.{statement}
 use Rattle.message.proofs.fault_of.Tie as tie
 
-slice-aggregate-first-broken : tie.Need-slice-aggregate-first-broken
-slice-aggregate-first-broken c = search needs
-
-first-broken-requires : tie.Need-first-broken-requires
-first-broken-requires c κs = search needs
-
 enum-told : tie.Need-enum-told
 enum-told c = search needs
 
-slice-aggregate-first-broken-2 : tie.Need-slice-aggregate-first-broken-2
-slice-aggregate-first-broken-2 c = search needs
+first-fault-requires : tie.Need-first-fault-requires
+first-fault-requires c κs = search needs
 
-first-broken-requires-2 : tie.Need-first-broken-requires-2
-first-broken-requires-2 c κs = search needs
+enum-told-2 : tie.Need-enum-told-2
+enum-told-2 c = search needs
 
-enum-known-format : tie.Need-enum-known-format
-enum-known-format c = search needs
+enum-told-3 : tie.Need-enum-told-3
+enum-told-3 c = search needs
+
+enum-told-4 : tie.Need-enum-told-4
+enum-told-4 c = search needs
+
+enum-told-5 : tie.Need-enum-told-5
+enum-told-5 c = search needs
 
 returns : tie.Need-returns
-unfolding faultOf pick
-returns c = rw (c .match .keys1)
+returns c = rw (c .before .enum-told .given .1) (c .first-fault .ensures)
 
 returns-2 : tie.Need-returns-2
-unfolding faultOf pick
-returns-2 c = rw (c .match .keys2)
+returns-2 c = rw (c .enum-told2 .given .1) (too-short _ _ _ _)
 
 returns-3 : tie.Need-returns-3
-unfolding faultOf pick
-returns-3 c = rw (c .match .keys3)
+returns-3 c = rw (c .enum-told3 .given .1) (not-digits _ _ _ _)
 
 returns-4 : tie.Need-returns-4
-unfolding pick
-returns-4 c =
-    by-values _ _ _ _ _ (c .before .before .before .before .before .before .match .rest .0 .0 .1)
-    (c .before .before .before .before .before .before .match .rest .0 .1)
-    (c .before .before .before .before .before .before .match .rest .1) (c .before .before .before .before .first-broken .ensures) _
-    (c .before .before .enum-told .given .1) (c .first-broken2 .ensures)
+returns-4 c = rw (c .enum-told4 .given .1) (other-length _ _ _ _)
 
 returns-5 : tie.Need-returns-5
-unfolding pick
-returns-5 c =
-    by-format _ _ _ _ _ (c .before .before .before .before .before .match .rest .0 .0 .1)
-    (c .before .before .before .before .before .match .rest .0 .1) (c .before .before .before .before .before .match .rest .1)
-    (c .before .before .before .first-broken .ensures) _ _ (c .before .format .given .1)
+returns-5 c = rw (c .enum-told5 .given .1) (cut-short _ _ _ _)
 
 pub fault-of-spec : {M : Type 1} → statement M
 fault-of-spec =
     tie.close
     (tie.spec
-    slice-aggregate-first-broken
-    first-broken-requires
     enum-told
-    slice-aggregate-first-broken-2
-    first-broken-requires-2
-    enum-known-format
+    first-fault-requires
+    enum-told-2
+    enum-told-3
+    enum-told-4
+    enum-told-5
     returns
     returns-2
     returns-3

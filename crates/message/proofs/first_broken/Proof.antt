@@ -4,22 +4,22 @@ use Prim.Native.Nat.{_≤_, _<_, _-_}
 use native.Mathlib.Omega.{arith}
 use borrow.Author.Tests.{not-true, not-false}
 use lib.ListN.{drop}
-use Rattle.ground.specs.Choice.{pick}
 use Rattle.message.specs.Layout.{layout}
-use Rattle.message.specs.Rules.{formatHolds, valueHolds, firstBroken}
+use Rattle.message.specs.Rules.{formOf}
+use Rattle.message.specs.Passing.{passesIn, lowestBroken}
 use Rattle.message.proofs.Places.{placed, narrow}
-use Rattle.message.proofs.Tests.{few, stops, goes-on, ends}
+use Rattle.message.proofs.Tests.{few, lent-field, stops, goes-on, ends}
 use Rattle.message.proofs.first_broken.Statement.{statement}
 use Rattle.message.proofs.first_broken.Tie as tie
 
 abbrev Inv-loop : tie.InvT-loop
-Inv-loop values code k blank-over m count i₀ i =
+Inv-loop values code about k blank-over m count i₀ i =
     (i ≤ count)
-    × (firstBroken (pick values (valueHolds k) (formatHolds k blank-over)) code (layout k) m
-    ≡ firstBroken (pick values (valueHolds k) (formatHolds k blank-over)) code (drop i (layout k)) m)
+    × (lowestBroken code about (passesIn values (formOf k) blank-over m) (layout k)
+    ≡ lowestBroken code about (passesIn values (formOf k) blank-over m) (drop i (layout k)))
 
 abbrev μ-loop : tie.MeasureT-loop
-μ-loop values code k blank-over m count i₀ i = count - i
+μ-loop values code about k blank-over m count i₀ i = count - i
 
 count-of-requires : tie.Need-count-of-requires Inv-loop μ-loop
 count-of-requires c κs = tt
@@ -37,7 +37,6 @@ span-requires : tie.Need-span-requires Inv-loop μ-loop
 span-requires c κs = (
   omega arith,
   omega (arith, few (c .before .before .before .before .before .args .k), c .before .before .before .count-of .ensures),
-  c .before .before .before .before .before .pre,
 )
 
 passes-requires : tie.Need-passes-requires Inv-loop μ-loop
@@ -48,9 +47,12 @@ passes-requires c κs =
 
 returns : tie.Need-returns Inv-loop μ-loop
 returns c =
+    let h : c .before .before .before .before .before .loop .i < 22 = omega
+    (arith, few (c .before .before .before .before .before .before .before .before .args .k), c .before .before .before .before .before .before .count-of .ensures) in
     stops _ _ _ _ _ _ (c .before .before .before .before .before .before .count-of .ensures)
-    (c .before .before .before .before .before .loop .inv .1) (c .before .before .before .before .loop-test .taken) _ _ _
-    (c .before .before .before .number-of .ensures) (c .before .before .span .ensures) (c .before .passes .ensures)
+    (c .before .before .before .before .before .loop .inv .1) (c .before .before .before .before .loop-test .taken) _ _
+    (c .before .before .before .number-of .ensures)
+    (c .before .passes .ensures _ (lent-field _ _ _ _ h (c .before .before .before .number-of .ensures) (c .before .before .span .ensures)))
     (not-true _ (c .if1 .taken))
 
 add-i : tie.Need-add-i Inv-loop μ-loop
@@ -65,13 +67,16 @@ loop-less : tie.Need-loop-less Inv-loop μ-loop
 loop-less c = omega arith
 
 loop-again : tie.Need-loop-again Inv-loop μ-loop
-loop-again c = (
-  omega arith,
-  goes-on _ _ _ _ _ _ (c .before .before .before .before .before .before .count-of .ensures)
-      (c .before .before .before .before .before .loop .inv .1) (c .before .before .before .before .loop-test .taken) _ _ _
-      (c .before .before .before .number-of .ensures) (c .before .before .span .ensures) (c .before .passes .ensures)
-      (not-false _ (c .if1 .left)),
-)
+loop-again c =
+    let h : c .before .before .before .before .before .loop .i < 22 = omega
+    (arith, few (c .before .before .before .before .before .before .before .before .args .k), c .before .before .before .before .before .before .count-of .ensures) in (
+      omega arith,
+      goes-on _ _ _ _ _ _ (c .before .before .before .before .before .before .count-of .ensures)
+          (c .before .before .before .before .before .loop .inv .1) (c .before .before .before .before .loop-test .taken) _ _
+          (c .before .before .before .number-of .ensures)
+          (c .before .passes .ensures _ (lent-field _ _ _ _ h (c .before .before .before .number-of .ensures) (c .before .before .span .ensures)))
+          (not-false _ (c .if1 .left)),
+    )
 
 returns-2 : tie.Need-returns-2 Inv-loop μ-loop
 returns-2 c = ends _ _ _ _ _ _ (c .before .before .count-of .ensures) (c .before .loop .inv .1) (c .loop-test .left)

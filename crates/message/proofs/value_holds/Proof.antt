@@ -2,7 +2,7 @@
 use mathlib.Core.Path.{sym, _∙_}
 use borrow.Author.Tests.{not-true, not-false}
 use Rattle.ground.proofs.Choices.{fails-left, decides}
-use Rattle.message.specs.Rules.{valueHolds}
+use Rattle.message.proofs.Tests.{obeys-append}
 use borrow.Author.Needs.{needs}
 use Rattle.message.proofs.value_holds.Statement.{statement}
 use Rattle.message.proofs.value_holds.Tie as tie
@@ -11,15 +11,17 @@ common-holds-requires : tie.Need-common-holds-requires
 common-holds-requires c κs = search needs
 
 returns : tie.Need-returns
-unfolding valueHolds
-returns c = sym (fails-left _ _ (sym (c .before .common-holds .ensures) ∙ not-true _ (c .if1 .taken)))
+returns c m q =
+    sym (obeys-append _ _ _ m ∙ fails-left _ _ (sym (c .before .common-holds .ensures m q) ∙ not-true _ (c .if1 .taken)))
 
 own-holds-requires : tie.Need-own-holds-requires
 own-holds-requires c κs = search needs
 
 returns-2 : tie.Need-returns-2
-unfolding valueHolds
-returns-2 c = c .own-holds .ensures ∙ sym (decides _ _ (sym (c .before .before .common-holds .ensures) ∙ not-false _ (c .before .if1 .left)))
+returns-2 c m q =
+    c .own-holds .ensures m q
+    ∙ sym
+    (obeys-append _ _ _ m ∙ decides _ _ (sym (c .before .before .common-holds .ensures m q) ∙ not-false _ (c .before .if1 .left)))
 
 pub value-holds-spec : {M : Type 1} → statement M
 value-holds-spec = tie.close (tie.spec common-holds-requires returns own-holds-requires returns-2)

@@ -88,7 +88,7 @@ returns c =
       types = types i;
       agreed = agreed i;
       leave = leave i;
-      length = days i;
+      length = record { 0 = days i };
       transport = transport i;
       working = working i;
       count = count i;

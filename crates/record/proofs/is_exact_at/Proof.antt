@@ -1,8 +1,8 @@
 -- Zero bytes are exact; where there is room the bytes there decide.
 use mathlib.Core.Path.{sym, _∙_}
-use borrow.Author.Tests.{not-true, not-false}
 use Rattle.record.proofs.Exact.{exact-fits, exact-past}
 use borrow.Author.Needs.{needs}
+use Rattle.splices.proofs.Splice.{room, no-room}
 use Rattle.record.proofs.is_exact_at.Statement.{statement}
 use Rattle.record.proofs.is_exact_at.Tie as tie
 
@@ -10,13 +10,13 @@ fits-requires : tie.Need-fits-requires
 fits-requires c κs = search needs
 
 returns : tie.Need-returns
-returns c = sym (exact-past _ _ (c .before .fits2 .ensures .1 (not-true _ (c .if1 .taken))))
+returns c = sym (exact-past _ _ (no-room _ _ _ (c .before .fits2 .ensures) (c .if1 .taken)))
 
 is-exact-requires : tie.Need-is-exact-requires
-is-exact-requires c κs = c .before .fits2 .ensures .0 (not-false _ (c .if1 .left))
+is-exact-requires c κs = room _ _ _ (c .before .fits2 .ensures) (c .if1 .left)
 
 returns-2 : tie.Need-returns-2
-returns-2 c = c .is-exact .ensures ∙ sym (exact-fits _ _ (c .before .before .fits2 .ensures .0 (not-false _ (c .before .if1 .left))))
+returns-2 c = c .is-exact .ensures ∙ sym (exact-fits _ _ (room _ _ _ (c .before .before .fits2 .ensures) (c .before .if1 .left)))
 
 pub is-exact-at-spec : {M : Type 1} → statement M
 is-exact-at-spec = tie.close (tie.spec fits-requires returns is-exact-requires returns-2)

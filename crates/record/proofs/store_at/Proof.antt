@@ -1,9 +1,8 @@
 -- Where there is no room nothing changes, else the bytes are written there.
 use mathlib.Core.Path.{_≡_, sym, _∙_}
 use native.Mathlib.Omega.{arith}
-use borrow.Author.Tests.{not-true, not-false}
 use lib.ListN.{length}
-use Rattle.splices.proofs.Splice.{put-past, put-fits}
+use Rattle.splices.proofs.Splice.{put-past, put-fits, room, no-room}
 use Rattle.record.specs.Layout.{customerBytes}
 use Rattle.record.proofs.Widths.{customer-width}
 use borrow.Author.Needs.{needs}
@@ -19,10 +18,11 @@ returns c =
     let n₁ : length (a .c .who) ≡ 25 = search needs in
     let n₂ : length (a .c .stamps) ≡ 64 = search needs in
     let n₃ : length (a .c .once) ≡ 64 = search needs in
-    sym (put-past (a .at) (customerBytes (a .c)) (a .t .now) (omega (arith, customer-width (a .c) n₁ n₂ n₃, c .before .fits2 .ensures .1 (not-true _ (c .if1 .taken)))))
+    let h = no-room _ (length (a .t .now)) _ (c .before .fits2 .ensures) (c .if1 .taken) in
+    sym (put-past (a .at) (customerBytes (a .c)) (a .t .now) (omega (arith, customer-width (a .c) n₁ n₂ n₃)))
 
 store-customer-requires : tie.Need-store-customer-requires
-store-customer-requires c κs = c .before .before .fits2 .ensures .0 (not-false _ (c .before .if1 .left))
+store-customer-requires c κs = room _ _ _ (c .before .before .fits2 .ensures) (c .before .if1 .left)
 
 same-length : tie.Need-same-length
 same-length c = search needs
@@ -33,8 +33,10 @@ returns-2 c =
     let n₁ : length (a .c .who) ≡ 25 = search needs in
     let n₂ : length (a .c .stamps) ≡ 64 = search needs in
     let n₃ : length (a .c .once) ≡ 64 = search needs in
+    let e = c .before .before .before .before in
+    let h = room _ (length (a .t .now)) _ (e .before .fits2 .ensures) (e .if1 .left) in
     c .before .before .store-customer .ensures
-    ∙ sym (put-fits (a .at) (customerBytes (a .c)) (a .t .now) (omega (arith, customer-width (a .c) n₁ n₂ n₃, c .before .before .before .before .before .fits2 .ensures .0 (not-false _ (c .before .before .before .before .if1 .left)))))
+    ∙ sym (put-fits (a .at) (customerBytes (a .c)) (a .t .now) (omega (arith, customer-width (a .c) n₁ n₂ n₃)))
 
 pub store-at-spec : {M : Type 1} → statement M
 store-at-spec =

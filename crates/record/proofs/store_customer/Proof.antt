@@ -47,7 +47,7 @@ same-length c = search needs
 returns : tie.Need-returns
 unfolding customerBytes
 returns c =
-    let a = c .before .before .before .before .before .before .before .before .before .before .before .before .before .before .before .before .before .before .before .before .before .before .before .before .before .before .before .before .before .before .before in
+    let a = c .before .before .before .before .before .before .before .before .before .before .before .before .before .before .before .before .before .before .before .before .before .before .before .before .before .before .before .before .before .before .before .before in
     let t = a .args .t .now in
     let p = a .args .at in
     let k = a .args .t3 in
@@ -55,8 +55,8 @@ returns c =
     let m : length (k .stamps) ≡ 64 = search needs in
     let q : length (k .once) ≡ 64 = search needs in
     let one-byte = bytesOf-length 1 in
-    let r₁ = written p 0 25 p [] (k .who) t t _ (omega arith) n (omega (arith, a .pre)) (none p t) (c .before .before .before .before .before .before .before .before .before .before .before .before .before .before .before .before .before .before .before .before .before .before .before .write-bytes .ensures) in
-    let r₂ = grouped p 25 5 (p + 25) _ (bytesOf 2 (k .types) ∷ bytesOf 1 (one (k .agreed)) ∷ bytesOf 1 (one (k .leave)) ∷ bytesOf 1 (k .length) ∷ []) t _ _ refl (joined-width _ (2 ∷ 1 ∷ 1 ∷ 1 ∷ []) (bytesOf-length 2 _, (one-byte _, (one-byte _, (one-byte _, tt))))) (omega (arith, a .pre)) r₁ (c .before .before .before .before .before .before .before .before .before .before .before .before .before .before .before .before .before .before .before .store-terms .ensures) in
+    let r₁ = written p 0 25 p [] (k .who) t t _ (omega arith) n (omega (arith, a .pre)) (none p t) (c .before .before .before .before .before .before .before .before .before .before .before .before .before .before .before .before .before .before .before .before .before .before .before .before .write-bytes .ensures) in
+    let r₂ = grouped p 25 5 (p + 25) _ (bytesOf 2 (k .types) ∷ bytesOf 1 (one (k .agreed)) ∷ bytesOf 1 (one (k .leave)) ∷ bytesOf 1 (k .length .0) ∷ []) t _ _ refl (joined-width _ (2 ∷ 1 ∷ 1 ∷ 1 ∷ []) (bytesOf-length 2 _, (one-byte _, (one-byte _, (one-byte _, tt))))) (omega (arith, a .pre)) r₁ (c .before .before .before .before .before .before .before .before .before .before .before .before .before .before .before .before .before .before .before .store-terms .ensures) in
     let r₃ = spliced p 30 27 (p + 30) _ (pairBytes (k .transport)) t _ _ refl (pair-width (k .transport)) (omega (arith, a .pre)) r₂ (c .before .before .before .before .before .before .before .before .before .before .before .before .before .before .before .store-pair .ensures) in
     let r₄ = spliced p 57 27 (p + 57) _ (pairBytes (k .working)) t _ _ refl (pair-width (k .working)) (omega (arith, a .pre)) r₃ (c .before .before .before .before .before .before .before .before .before .before .before .store-pair2 .ensures) in
     grouped p 84 1025 (p + 84) _ (bytesOf 1 (k .count) ∷ bytesOfAll 8 (k .stamps) ∷ bytesOfAll 8 (k .once) ∷ []) t _ _ refl (joined-width _ (1 ∷ 512 ∷ 512 ∷ []) (one-byte _, (numbers-width (k .stamps) m, (numbers-width (k .once) q, tt)))) (a .pre) r₄ (c .before .before .store-stamps .ensures) .is

@@ -1,9 +1,8 @@
 -- Where there is no room nothing changes, else the bytes are written there.
 use mathlib.Core.Path.{_≡_, sym, _∙_}
 use native.Mathlib.Omega.{arith}
-use borrow.Author.Tests.{not-true, not-false}
 use lib.ListN.{length}
-use Rattle.splices.proofs.Splice.{put-past, put-fits}
+use Rattle.splices.proofs.Splice.{put-past, put-fits, room, no-room}
 use Rattle.record.specs.Layout.{settingsBytes}
 use Rattle.record.proofs.Widths.{settings-width}
 use borrow.Author.Needs.{needs}
@@ -18,10 +17,11 @@ returns c =
     let a = c .before .before .before .args in
     let n₁ : length (a .s .bank) ≡ 25 = search needs in
     let n₂ : length (a .s .software) ≡ 16 = search needs in
-    sym (put-past (a .at) (settingsBytes (a .s)) (a .t .now) (omega (arith, settings-width (a .s) n₁ n₂, c .before .fits2 .ensures .1 (not-true _ (c .if1 .taken)))))
+    let h = no-room _ (length (a .t .now)) _ (c .before .fits2 .ensures) (c .if1 .taken) in
+    sym (put-past (a .at) (settingsBytes (a .s)) (a .t .now) (omega (arith, settings-width (a .s) n₁ n₂)))
 
 store-bank-requires : tie.Need-store-bank-requires
-store-bank-requires c κs = c .before .before .fits2 .ensures .0 (not-false _ (c .before .if1 .left))
+store-bank-requires c κs = room _ _ _ (c .before .before .fits2 .ensures) (c .before .if1 .left)
 
 same-length : tie.Need-same-length
 same-length c = search needs
@@ -31,8 +31,10 @@ returns-2 c =
     let a = c .before .before .before .before .before .before .before .args in
     let n₁ : length (a .s .bank) ≡ 25 = search needs in
     let n₂ : length (a .s .software) ≡ 16 = search needs in
+    let e = c .before .before .before .before in
+    let h = room _ (length (a .t .now)) _ (e .before .fits2 .ensures) (e .if1 .left) in
     c .before .before .store-bank .ensures
-    ∙ sym (put-fits (a .at) (settingsBytes (a .s)) (a .t .now) (omega (arith, settings-width (a .s) n₁ n₂, c .before .before .before .before .before .fits2 .ensures .0 (not-false _ (c .before .before .before .before .if1 .left)))))
+    ∙ sym (put-fits (a .at) (settingsBytes (a .s)) (a .t .now) (omega (arith, settings-width (a .s) n₁ n₂)))
 
 pub store-settings-spec : {M : Type 1} → statement M
 store-settings-spec =

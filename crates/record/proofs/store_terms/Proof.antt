@@ -50,7 +50,7 @@ returns c =
     let r₁ = written p 0 2 p [] (bytesOf 2 (a .args .types)) t t _ (omega arith) (bytesOf-length 2 _) (omega (arith, a .pre)) (none p t) (c .before .before .before .before .before .before .before .before .before .before .before .before .before .before .before .before .write2 .ensures) in
     let r₂ = written p 2 1 (p + 2) _ (bytesOf 1 (one (a .args .agreed))) t _ _ refl (n _) (omega (arith, a .pre)) r₁ (c .before .before .before .before .before .before .before .before .before .before .before .write1 .ensures ∙ ap (λ (x : ℕ). put (p + 2) (bytesOf 1 x) (c .before .before .before .before .before .before .before .before .before .before .before .before .before .before .before .before .write2 .last .0)) (c .before .before .before .before .before .before .before .before .before .before .before .before .flag .ensures)) in
     let r₃ = written p 3 1 (p + 3) _ (bytesOf 1 (one (a .args .leave))) t _ _ refl (n _) (omega (arith, a .pre)) r₂ (c .before .before .before .before .before .before .write12 .ensures ∙ ap (λ (x : ℕ). put (p + 3) (bytesOf 1 x) (c .before .before .before .before .before .before .before .before .before .before .before .write1 .last .0)) (c .before .before .before .before .before .before .before .flag2 .ensures)) in
-    written p 4 1 (p + 4) _ (bytesOf 1 (a .args .days)) t _ _ refl (n _) (a .pre) r₃ (c .before .before .write13 .ensures) .is
+    written p 4 1 (p + 4) _ (bytesOf 1 (a .args .days .0)) t _ _ refl (n _) (a .pre) r₃ (c .before .before .write13 .ensures) .is
 
 pub store-terms-spec : {M : Type 1} → statement M
 store-terms-spec =

@@ -1,8 +1,8 @@
 -- A place with no room reads 0, else the bytes there are the number.
 use mathlib.Core.Path.{sym}
 use native.Mathlib.Omega.{arith}
-use borrow.Author.Tests.{not-true, not-false}
-use Rattle.splices.proofs.Splice.{part2, numAt-past, numAt-fits}
+use borrow.Author.Tests.{leb-true}
+use Rattle.splices.proofs.Splice.{part2, numAt-past, numAt-fits, granted, room, no-room}
 use Rattle.splices.specs.Bytes.{num}
 use borrow.Author.Needs.{needs}
 use Rattle.splices.proofs.read2.Statement.{statement}
@@ -12,19 +12,20 @@ fits-requires : tie.Need-fits-requires
 fits-requires c κs = search needs
 
 returns : tie.Need-returns
-returns c = sym (numAt-past _ _ _ (c .before .fits2 .ensures .1 (not-true _ (c .if1 .taken))))
+returns c = sym (numAt-past _ _ _ (no-room _ _ _ (c .before .fits2 .ensures) (c .if1 .taken)))
 
 shared-slice-read-wide : tie.Need-shared-slice-read-wide
-shared-slice-read-wide c = omega (arith, c .before .before .fits2 .ensures .0 (not-false _ (c .before .if1 .left)))
+shared-slice-read-wide c = omega (arith, leb-true, granted (c .before .before .fits2 .ensures) (c .before .if1 .left))
 
 wide-requires : tie.Need-wide-requires
 wide-requires c κs = search needs
 
 add-wide : tie.Need-add-wide
-add-wide c = omega (arith, c .before .before .before .fits2 .ensures .0 (not-false _ (c .before .before .if1 .left)))
+add-wide c = omega (arith, leb-true, granted (c .before .before .before .fits2 .ensures) (c .before .before .if1 .left))
 
 shared-slice-read-wide-2 : tie.Need-shared-slice-read-wide-2
-shared-slice-read-wide-2 c = omega (arith, c .before .before .before .before .fits2 .ensures .0 (not-false _ (c .before .before .before .if1 .left)))
+shared-slice-read-wide-2 c =
+    let e = c .before .before .before in omega (arith, leb-true, granted (e .before .fits2 .ensures) (e .if1 .left))
 
 wide-requires-2 : tie.Need-wide-requires-2
 wide-requires-2 c κs = search needs
@@ -39,7 +40,7 @@ returns-2 : tie.Need-returns-2
 unfolding num
 returns-2 c =
     let a = c .before .before .before .before .before .before .before in
-    let h = c .before .before .before .before .before .fits2 .ensures .0 (not-false _ (c .before .before .before .before .if1 .left)) in
+    let h = room _ _ _ (c .before .before .before .before .before .fits2 .ensures) (c .before .before .before .before .if1 .left) in
     rw (numAt-fits 2 (a .args .at) (a .args .t .now) h, part2 (a .args .t .now) (a .args .at) h) (omega arith)
 
 pub read2-spec : {M : Type 1} → statement M

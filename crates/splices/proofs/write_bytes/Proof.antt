@@ -3,10 +3,10 @@ use mathlib.Core.Path.{_≡_, refl, sym, ap, _∙_}
 use mathlib.Core.List.{List}
 use Prim.Native.Nat.{ℕ, _≤_, _-_}
 use native.Mathlib.Omega.{arith}
-use borrow.Author.Tests.{not-true, not-false}
+use borrow.Author.Tests.{leb-true}
 use lib.ListN.{length, take, length-set}
 use lib.Seq.{take-all}
-use Rattle.splices.proofs.Splice.{splice-none, put-past, put-fits}
+use Rattle.splices.proofs.Splice.{splice-none, put-past, put-fits, granted, room, no-room}
 use Rattle.splices.proofs.Chunks.{put-more}
 use Rattle.splices.specs.Bytes.{splice}
 use Rattle.splices.proofs.write_bytes.Statement.{statement}
@@ -22,7 +22,7 @@ fits-requires : tie.Need-fits-requires Inv-loop μ-loop
 fits-requires c κs = tt
 
 returns : tie.Need-returns Inv-loop μ-loop
-returns c = sym (put-past _ _ _ (c .before .fits2 .ensures .1 (not-true _ (c .if1 .taken))))
+returns c = sym (put-past _ _ _ (no-room _ _ _ (c .before .fits2 .ensures) (c .if1 .taken)))
 
 loop-holds : tie.Need-loop-holds Inv-loop μ-loop
 loop-holds c = (omega arith, refl, splice-none _ _)
@@ -31,10 +31,11 @@ shared-slice-read-t : tie.Need-shared-slice-read-t Inv-loop μ-loop
 shared-slice-read-t c = omega arith
 
 add-t : tie.Need-add-t Inv-loop μ-loop
-add-t c = omega (arith, c .before .before .before .before .fits2 .ensures .0 (not-false _ (c .before .before .before .if1 .left)))
+add-t c = let e = c .before .before .before in omega (arith, leb-true, granted (e .before .fits2 .ensures) (e .if1 .left))
 
 slice-write-t : tie.Need-slice-write-t Inv-loop μ-loop
-slice-write-t c = omega (arith, c .before .before .before .before .fits2 .ensures .0 (not-false _ (c .before .before .before .if1 .left)))
+slice-write-t c =
+    let e = c .before .before .before in omega (arith, leb-true, granted (e .before .fits2 .ensures) (e .if1 .left))
 
 add-i : tie.Need-add-i Inv-loop μ-loop
 add-i c = omega arith
@@ -45,10 +46,12 @@ loop-less c = omega arith
 loop-again : tie.Need-loop-again Inv-loop μ-loop
 loop-again c =
     let l = c .before .before .loop in
-    let a = c .before .before .before .before .before .before .before .args in (
+    let e = c .before .before .before in
+    let a = e .before .before .before .before .args in (
       omega arith,
       simp length-set (l .inv .1),
-      put-more (a .at) (l .i) (a .s .now) (l .t) (a .t .now) (omega arith) (c .before .before .before .before .fits2 .ensures .0 (not-false _ (c .before .before .before .if1 .left))) (l .inv .1) (l .inv .2),
+      put-more (a .at) (l .i) (a .s .now) (l .t) (a .t .now) (omega arith)
+          (room _ _ _ (e .before .fits2 .ensures) (e .if1 .left)) (l .inv .1) (l .inv .2),
     )
 
 same-length : tie.Need-same-length Inv-loop μ-loop
@@ -57,10 +60,11 @@ same-length c = omega arith
 returns-2 : tie.Need-returns-2 Inv-loop μ-loop
 returns-2 c =
     let l = c .before .loop in
-    let a = c .before .before .before .before .before .before .args in
+    let e = c .before .before in
+    let a = e .before .before .before .before .args in
     l .inv .2
     ∙ ap (λ (x : List ℕ). splice (a .at) x (a .t .now)) (take-all (l .i) (a .s .now) (omega arith))
-    ∙ sym (put-fits (a .at) (a .s .now) (a .t .now) (c .before .before .before .fits2 .ensures .0 (not-false _ (c .before .before .if1 .left))))
+    ∙ sym (put-fits (a .at) (a .s .now) (a .t .now) (room _ _ _ (e .before .fits2 .ensures) (e .if1 .left)))
 
 pub write-bytes-spec : {M : Type 1} → statement M
 write-bytes-spec =

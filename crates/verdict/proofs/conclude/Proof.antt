@@ -1,47 +1,25 @@
--- Without a fault the answer is what is granted, and with one the table stays.
-use Rattle.verdict.proofs.Judged.{accepted-outcome, refused-outcome, accepted-bytes, refused-bytes}
+-- What is granted is stored where no check failed, and the answer says so.
+use Rattle.verdict.proofs.Judged.{concluded}
 use borrow.Author.Needs.{needs}
 use Rattle.verdict.proofs.conclude.Statement.{statement}
 use Rattle.verdict.proofs.conclude.Tie as tie
 
-enum-told : tie.Need-enum-told
-enum-told c = search needs
+is-sound-requires : tie.Need-is-sound-requires
+is-sound-requires c κs = search needs
 
 accept-requires : tie.Need-accept-requires
 accept-requires c κs = search needs
 
-cast-clock-value : tie.Need-cast-clock-value
-cast-clock-value c = search needs
-
-clock-value-requires : tie.Need-clock-value-requires
-clock-value-requires c κs = search needs
-
-enum-known-fault : tie.Need-enum-known-fault
-enum-known-fault c = search needs
+answer-by-requires : tie.Need-answer-by-requires
+answer-by-requires c κs = search needs
 
 same-length : tie.Need-same-length
 same-length c = search needs
 
 returns : tie.Need-returns
 returns c =
-    let s = c .before .before .before .before .before .before .enum-told .given .1 in
-    let a = c .before .before .before .before .accept .ensures in
-    (accepted-outcome _ _ _ _ _ s (a .0) (c .clock-value .ensures), accepted-bytes _ _ _ _ s (a .1))
-
-returns-2 : tie.Need-returns-2
-returns-2 c =
-    let s = c .before .fault .given .1 in
-    (refused-outcome _ _ _ _ _ s, refused-bytes _ _ _ _ _ s)
+    concluded _ _ _ _ _ _ _ _ _ (c .before .before .before .before .before .is-sound .ensures) (c .before .before .before .accept .ensures) (c .answer-by .ensures)
 
 pub conclude-spec : {M : Type 1} → statement M
 conclude-spec =
-    tie.close
-    (tie.spec
-    enum-told
-    accept-requires
-    cast-clock-value
-    clock-value-requires
-    enum-known-fault
-    same-length
-    returns
-    returns-2)
+    tie.close (tie.spec is-sound-requires accept-requires answer-by-requires same-length returns)

@@ -1,34 +1,41 @@
--- Each turn passes one line, and at most 201 dates are kept.
+-- The dates kept so far and what the lines from here on say make the whole; at most 201 lines are looked at.
+use mathlib.Core.Path.{sym, _∙_}
+use mathlib.Core.Logic.{⊎-elim, inl, inr}
+use Prim.Native.Nat.{_-_, _≤_, _<_}
 use native.Mathlib.Omega.{arith}
 use borrow.Author.Needs.{needs}
-use Prim.Native.Nat.{_≤_, _-_}
 use lib.ListN.{length}
+use Rattle.words.specs.Forms.{holidaysOf}
+use Rattle.words.proofs.Cuts.{end-in}
+use Rattle.words.proofs.Days.{rest, Sofar, none-yet, one-more, one-bad, looked, ends}
 use Rattle.words.proofs.holidays.Statement.{statement}
 use Rattle.words.proofs.holidays.Tie as tie
 
 abbrev Inv-loop : tie.InvT-loop
-Inv-loop s d₀ at₀ count₀ d at count = (at ≤ length s) × (count ≤ 201)
+Inv-loop s dates₀ count₀ at₀ dates count at = (count ≤ 201) × Sofar (rest s 0 0) (rest s at count) dates count
 
 abbrev μ-loop : tie.MeasureT-loop
-μ-loop s d₀ at₀ count₀ d at count = length s - at
+μ-loop s dates₀ count₀ at₀ dates count at = length s - at
 
 loop-holds : tie.Need-loop-holds Inv-loop μ-loop
-loop-holds c = (omega arith, omega arith)
+loop-holds c = (omega arith, none-yet _)
 
-returns : tie.Need-returns Inv-loop μ-loop
-returns c = tt
+part-end-requires : tie.Need-part-end-requires Inv-loop μ-loop
+part-end-requires c κs = search needs
 
-line-end-requires : tie.Need-line-end-requires Inv-loop μ-loop
-line-end-requires c κs = omega arith
+sub-date-in : tie.Need-sub-date-in Inv-loop μ-loop
+sub-date-in c = omega arith
 
-line-date-requires : tie.Need-line-date-requires Inv-loop μ-loop
-line-date-requires c κs = (omega arith, omega arith)
+part-date-in-start : tie.Need-part-date-in-start Inv-loop μ-loop
+part-date-in-start c = omega arith
 
-add-d : tie.Need-add-d Inv-loop μ-loop
-add-d c = omega arith
+part-date-in-end : tie.Need-part-date-in-end Inv-loop μ-loop
+part-date-in-end c =
+    let l = c .before .before .before in
+    omega (arith, end-in 0x0A (l .before .before .args .s .now) (l .loop .at) (c .part-end .result) (c .part-end .ensures) (omega arith))
 
-cast-d : tie.Need-cast-d Inv-loop μ-loop
-cast-d c = omega arith
+date-in-requires : tie.Need-date-in-requires Inv-loop μ-loop
+date-in-requires c κs = search needs
 
 enum-known-date : tie.Need-enum-known-date Inv-loop μ-loop
 enum-known-date c = search needs
@@ -36,32 +43,62 @@ enum-known-date c = search needs
 enum-told : tie.Need-enum-told Inv-loop μ-loop
 enum-told c = search needs
 
-returns-2 : tie.Need-returns-2 Inv-loop μ-loop
-returns-2 c = tt
+add-t13 : tie.Need-add-t13 Inv-loop μ-loop
+add-t13 c = omega arith
 
-mul-d : tie.Need-mul-d Inv-loop μ-loop
-mul-d c = omega arith
+cast-t14 : tie.Need-cast-t14 Inv-loop μ-loop
+cast-t14 c = omega arith
 
-element-write-d : tie.Need-element-write-d Inv-loop μ-loop
-element-write-d c = omega arith
+returns : tie.Need-returns Inv-loop μ-loop
+unfolding holidaysOf
+returns c =
+    let e = c .before .before .before .before in
+    let l = e .before .before .before in
+    let h : l .loop .count < 201 = omega arith in
+    one-bad _ _ _ _ (l .loop .inv .0)
+    (looked _ _ (l .before .before .args .s .now) (l .loop .at) (e .part-end .result) (l .loop .count) _
+    (e .before .before .loop-test .taken) h (e .part-end .ensures)
+    (sym (c .enum-told .given .1) ∙ c .before .before .date-in .ensures) (l .loop .inv .1))
+
+mul-dates : tie.Need-mul-dates Inv-loop μ-loop
+mul-dates c = omega arith
+
+array-write-dates : tie.Need-array-write-dates Inv-loop μ-loop
+array-write-dates c = omega arith
 
 add-count : tie.Need-add-count Inv-loop μ-loop
 add-count c = omega arith
 
-returns-3 : tie.Need-returns-3 Inv-loop μ-loop
-returns-3 c = tt
-
 add-at : tie.Need-add-at Inv-loop μ-loop
-add-at c = omega arith
+add-at c =
+    let e = c .before .before .before .before .before in
+    let l = e .before .before .before in
+    omega (arith, end-in 0x0A (l .before .before .args .s .now) (l .loop .at) (e .part-end .result) (e .part-end .ensures) (omega arith))
 
 loop-less : tie.Need-loop-less Inv-loop μ-loop
 loop-less c = omega arith
 
 loop-again : tie.Need-loop-again Inv-loop μ-loop
-loop-again c = (omega arith, omega arith)
+loop-again c =
+    let e = c .before .before .before .before .before in
+    let l = e .before .before .before in
+    let h : l .loop .count < 201 = omega arith in (
+      omega arith,
+      one-more _ _ _ _ _ h
+          (looked _ _ (l .before .before .args .s .now) (l .loop .at) (e .part-end .result) (l .loop .count) _
+          (e .before .before .loop-test .taken) h (e .part-end .ensures)
+          (sym (c .before .date .given .1) ∙ c .before .before .before .date-in .ensures) (l .loop .inv .1)),
+    )
 
-returns-4 : tie.Need-returns-4 Inv-loop μ-loop
-returns-4 c = tt
+cast-t18 : tie.Need-cast-t18 Inv-loop μ-loop
+cast-t18 c = omega arith
+
+returns-2 : tie.Need-returns-2 Inv-loop μ-loop
+unfolding holidaysOf
+returns-2 c =
+    let l = c .before in
+    ends _ _ (l .before .before .args .s .now) (l .loop .at) (l .loop .count)
+    (⊎-elim (λ w. inl (w .left)) (λ w. inr (w .1 .taken)) (c .loop-test .came)) (l .loop .inv .0) (l .loop .inv .1)
 
 pub holidays-spec : {M : Type 1} → statement M
 holidays-spec =
@@ -70,19 +107,21 @@ holidays-spec =
     Inv-loop
     μ-loop
     loop-holds
-    returns
-    line-end-requires
-    line-date-requires
-    add-d
-    cast-d
+    part-end-requires
+    sub-date-in
+    part-date-in-start
+    part-date-in-end
+    date-in-requires
     enum-known-date
     enum-told
-    returns-2
-    mul-d
-    element-write-d
+    add-t13
+    cast-t14
+    returns
+    mul-dates
+    array-write-dates
     add-count
-    returns-3
     add-at
     loop-less
     loop-again
-    returns-4)
+    cast-t18
+    returns-2)

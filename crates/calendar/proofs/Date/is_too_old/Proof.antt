@@ -1,25 +1,118 @@
--- `calendar::Date::is_too_old` meets its contract: a date is too old where its day comes before the first good one.
+-- `calendar::Date::is_too_old` meets its contract: those counted and those still to come are all, and a sixth decides.
 -- Assumes nothing.
-use mathlib.Core.Path.{sym}
+use mathlib.Core.Path.{_≡_, sym, ap₂, _∙_}
+use mathlib.Core.Bool.{Bool, true, false}
+use Prim.Native.Nat.{ℕ, _+_, _-_, _≤_}
+use borrow.Author.Tests.{ltb-true, ltb-false, lt-ltb, le-ltb}
+use lib.Dec.{ltb}
+use Rattle.ground.specs.Choice.{one}
+use Rattle.calendar.specs.Banking.{bankingDaysAfter, tooOld}
 use Rattle.calendar.proofs.Days.{number-below}
-use Rattle.calendar.proofs.Old.{old-by-days}
-use native.Mathlib.Omega.{arith}
+use Rattle.calendar.proofs.Old.{upTo, up-by, up-none}
 use borrow.Author.Needs.{needs}
+use native.Mathlib.Omega.{arith}
 use Rattle.calendar.proofs.Date.is_too_old.Statement.{statement}
 use Rattle.calendar.proofs.Date.is_too_old.Tie as tie
 
-day-number-requires : tie.Need-day-number-requires
+abbrev Inv-loop : tie.InvT-loop
+Inv-loop holidays t k₀ met₀ k met = (met .0 ≤ 5) × (met .0 + upTo holidays t k ≡ upTo holidays t k₀)
+
+abbrev μ-loop : tie.MeasureT-loop
+μ-loop holidays t k₀ met₀ k met = t - k
+
+-- the banking days after a day, up to today
+abbrev ahead : tie.At-loop Inv-loop μ-loop → ℕ → ℕ
+ahead at = upTo (at .before .before .before .before .args .holidays .now) (at .before .before .day-number .result)
+
+-- a turn counts its day where that is a banking day
+turn : (c : tie.After-is-banking Inv-loop μ-loop) (b : Bool) → c .is-banking .result ≡ b
+    → let at = c .before .before in ahead at (at .loop .k) ≡ one b + ahead at (at .loop .k + 1)
+turn c b e = up-by _ _ _ b (c .before .loop-test .taken) (sym (c .is-banking .ensures) ∙ e)
+
+-- whether more than five lie after the date's own day
+told : (at : tie.At-loop Inv-loop μ-loop) (b : Bool) → ltb 5 (ahead at (at .before .day-number2 .result)) ≡ b
+    → let a = at .before .before .before .before .args in b ≡ tooOld (a .holidays .now) (a .self .yymmdd) (a .today .yymmdd)
+unfolding tooOld bankingDaysAfter
+told at b h =
+    let hs = at .before .before .before .before .args .holidays .now in
+    sym h
+    ∙ ap₂ (λ (d t : ℕ). ltb 5 (upTo hs t d)) (at .before .day-number2 .ensures) (at .before .before .day-number .ensures)
+
+day-number-requires : tie.Need-day-number-requires Inv-loop μ-loop
 day-number-requires c κs = search needs
 
-day-number-requires-2 : tie.Need-day-number-requires-2
+day-number-requires-2 : tie.Need-day-number-requires-2 Inv-loop μ-loop
 day-number-requires-2 c κs = search needs
 
-first-good-requires : tie.Need-first-good-requires
-first-good-requires c κs = omega (arith, number-below (c .before .before .before .args .today .yymmdd), c .day-number2 .ensures)
+loop-holds : tie.Need-loop-holds Inv-loop μ-loop
+loop-holds c = omega arith
 
-returns : tie.Need-returns
-returns c = rw (c .before .before .day-number .ensures, c .first-good .ensures, c .before .day-number2 .ensures) (sym (old-by-days _ _ _))
+add-k : tie.Need-add-k Inv-loop μ-loop
+add-k c = omega arith
+
+is-banking-requires : tie.Need-is-banking-requires Inv-loop μ-loop
+is-banking-requires c κs =
+    let s = c .before .before .before .before .before in
+    omega (arith, number-below (s .args .today .yymmdd), c .before .before .before .day-number .ensures)
+
+next-requires : tie.Need-next-requires Inv-loop μ-loop
+next-requires c κs = omega arith
+
+is-more-than-requires : tie.Need-is-more-than-requires Inv-loop μ-loop
+is-more-than-requires c κs = search needs
+
+returns : tie.Need-returns Inv-loop μ-loop
+unfolding one
+returns c =
+    let at = c .before .before .before .before .before .before in
+    let met = c .before .before .next in
+    let counted = turn (c .before .before .before .before) true (c .before .before .before .if1 .taken) in
+    let more = ltb-true 5 (met .result .0) (sym (c .before .is-more-than .ensures) ∙ c .if2 .taken) in
+    told at true (lt-ltb 5 (ahead at _) (omega (arith, at .loop .inv, counted, met .ensures, more)))
+
+loop-less : tie.Need-loop-less Inv-loop μ-loop
+loop-less c = omega arith
+
+loop-again : tie.Need-loop-again Inv-loop μ-loop
+unfolding one
+loop-again c =
+    let i = c .before .before .before .before .before .before .loop .inv in
+    let met = c .before .before .next in
+    let counted = turn (c .before .before .before .before) true (c .before .before .before .if1 .taken) in
+    let few = ltb-false 5 (met .result .0) (sym (c .before .is-more-than .ensures) ∙ c .if2 .left) in
+    (few, omega (arith, i .1, met .ensures, counted))
+
+loop-less-2 : tie.Need-loop-less-2 Inv-loop μ-loop
+loop-less-2 c = omega arith
+
+loop-again-2 : tie.Need-loop-again-2 Inv-loop μ-loop
+unfolding one
+loop-again-2 c =
+    let i = c .before .before .before .loop .inv in
+    (i .0, omega (arith, i .1, turn (c .before) false (c .if1 .left)))
+
+returns-2 : tie.Need-returns-2 Inv-loop μ-loop
+returns-2 c =
+    let at = c .before in
+    let none : ahead at (at .loop .k) ≡ 0 = up-none _ _ _ (c .loop-test .left) in
+    told at false (le-ltb 5 (ahead at _) (omega (arith, at .loop .inv, none)))
 
 pub is-too-old-spec : {M : Type 1} → statement M
 is-too-old-spec =
-    tie.close (tie.spec day-number-requires day-number-requires-2 first-good-requires returns)
+    tie.close
+    (tie.spec
+    Inv-loop
+    μ-loop
+    day-number-requires
+    day-number-requires-2
+    loop-holds
+    add-k
+    is-banking-requires
+    next-requires
+    is-more-than-requires
+    returns
+    loop-less
+    loop-again
+    loop-less-2
+    loop-again-2
+    returns-2)

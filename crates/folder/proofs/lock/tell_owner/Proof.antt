@@ -1,17 +1,22 @@
 -- The owner's number is the lock's first line.
 use native.Mathlib.Omega.{arith}
-use Prim.Native.Nat.{_-_}
+use Prim.Native.Nat.{_+_, _≤_}
 use mathlib.Core.Path.{sym}
+use lib.ListN.{length}
 use lib.Seq.{length-take-le}
 use borrow.Author.Needs.{needs}
+use Rattle.words.proofs.Cuts.{end-in}
 use Rattle.folder.proofs.lock.tell_owner.Statement.{statement}
 use Rattle.folder.proofs.lock.tell_owner.Tie as tie
 
-line-end-requires : tie.Need-line-end-requires
-line-end-requires c κs = search needs
+part-end-requires : tie.Need-part-end-requires
+part-end-requires c κs = search needs
 
 slice-aggregate-digits : tie.Need-slice-aggregate-digits
-slice-aggregate-digits c = sym (length-take-le _ _ (omega arith))
+slice-aggregate-digits c =
+    let p = c .before in
+    let lock = p .before .before .before .args .lock .now in
+    sym (length-take-le _ _ (end-in 0x0A lock 0 (p .part-end .result) (p .part-end .ensures) (omega arith) .1))
 
 digits-requires : tie.Need-digits-requires
 digits-requires c κs = search needs
@@ -43,8 +48,8 @@ tell-dead-requires c κs = search needs
 add-from : tie.Need-add-from
 add-from c = search needs
 
-line-end-requires-2 : tie.Need-line-end-requires-2
-line-end-requires-2 c κs = search needs
+part-end-requires-2 : tie.Need-part-end-requires-2
+part-end-requires-2 c κs = search needs
 
 sub-tell-mend : tie.Need-sub-tell-mend
 sub-tell-mend c = search needs
@@ -53,7 +58,11 @@ part-tell-mend-start : tie.Need-part-tell-mend-start
 part-tell-mend-start c = search needs
 
 part-tell-mend-end : tie.Need-part-tell-mend-end
-part-tell-mend-end c = search needs
+part-tell-mend-end c =
+    let p = c .before .before .before .before .before .before .before .before .before .before in
+    let lock = p .before .before .before .args .lock .now in
+    let h : p .part-end .result + 1 ≤ length lock = omega (arith, c .before .if2 .taken) in
+    omega (arith, end-in 0x0A lock (p .part-end .result + 1) (c .part-end2 .result) (c .part-end2 .ensures) h)
 
 tell-mend-requires : tie.Need-tell-mend-requires
 tell-mend-requires c κs = search needs
@@ -74,7 +83,7 @@ pub tell-owner-spec : {M : Type 1} → statement M
 tell-owner-spec =
     tie.close
     (tie.spec
-    line-end-requires
+    part-end-requires
     slice-aggregate-digits
     digits-requires
     enum-known-owner
@@ -86,7 +95,7 @@ tell-owner-spec =
     returns-2
     tell-dead-requires
     add-from
-    line-end-requires-2
+    part-end-requires-2
     sub-tell-mend
     part-tell-mend-start
     part-tell-mend-end

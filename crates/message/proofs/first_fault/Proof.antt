@@ -1,0 +1,35 @@
+-- The format decides where it is broken, else the values.
+use Rattle.message.proofs.Tests.{by-format, by-values}
+use borrow.Author.Needs.{needs}
+use Rattle.message.proofs.first_fault.Statement.{statement}
+use Rattle.message.proofs.first_fault.Tie as tie
+
+first-broken-requires : tie.Need-first-broken-requires
+first-broken-requires c κs = search needs
+
+enum-told : tie.Need-enum-told
+enum-told c = search needs
+
+first-broken-requires-2 : tie.Need-first-broken-requires-2
+first-broken-requires-2 c κs = search needs
+
+enum-known-format : tie.Need-enum-known-format
+enum-known-format c = search needs
+
+returns : tie.Need-returns
+returns c =
+    by-values _ _ _ _ _ (c .before .before .before .first-broken .ensures) _ (c .before .enum-told .given .1) (c .first-broken2 .ensures)
+
+returns-2 : tie.Need-returns-2
+returns-2 c = by-format _ _ _ _ _ (c .before .before .before .first-broken .ensures) _ _ _ (c .before .format .given .1)
+
+pub first-fault-spec : {M : Type 1} → statement M
+first-fault-spec =
+    tie.close
+    (tie.spec
+    first-broken-requires
+    enum-told
+    first-broken-requires-2
+    enum-known-format
+    returns
+    returns-2)

@@ -1,0 +1,62 @@
+-- The first end is the last, or leaves one reply due, which the second gives.
+use native.Mathlib.Omega.{arith}
+use Rattle.receiving.proofs.Calling.{counts-one, ended-once, ended-good, ended-twice}
+use borrow.Author.Needs.{needs}
+use Rattle.receiving.proofs.end_all.Statement.{statement}
+use Rattle.receiving.proofs.end_all.Tie as tie
+
+one-end-requires : tie.Need-one-end-requires
+one-end-requires c κs = search needs
+
+same-length : tie.Need-same-length
+same-length c = search needs
+
+same-length-2 : tie.Need-same-length-2
+same-length-2 c = search needs
+
+same-length-3 : tie.Need-same-length-3
+same-length-3 c = search needs
+
+returns : tie.Need-returns
+returns c =
+    let d = c .before .before .before .before .before .before .before in
+    ended-once _ _ (d .before .before .before .before .before .before .before .pre .0) _ _ _ _ (d .one-end .ensures) (c .if1 .taken)
+
+one-end-requires-2 : tie.Need-one-end-requires-2
+one-end-requires-2 c κs =
+    let d = c .before .before .before .before .before .before .before .before .before .before .before in
+    let p = d .before .before .before .before .before .before .before .pre in (
+      ended-good _ _ (p .0) _ _ _ _ (d .one-end .ensures) (c .before .before .before .before .if1 .left),
+      omega (arith, counts-one (d .one-end .ensures), p .1),
+    )
+
+same-length-4 : tie.Need-same-length-4
+same-length-4 c = search needs
+
+same-length-5 : tie.Need-same-length-5
+same-length-5 c = search needs
+
+same-length-6 : tie.Need-same-length-6
+same-length-6 c = search needs
+
+returns-2 : tie.Need-returns-2
+returns-2 c =
+    let i = c .before .before .before .before .before .before .before .before .before .before .before in
+    let d = i .before .before .before .before .before .before .before in
+    ended-twice _ _ (d .before .before .before .before .before .before .before .pre .0) _ _ _ _
+    (d .one-end .ensures) (c .before .before .before .before .before .before .one-end2 .ensures) (i .if1 .left)
+
+pub end-all-spec : {M : Type 1} → statement M
+end-all-spec =
+    tie.close
+    (tie.spec
+    one-end-requires
+    same-length
+    same-length-2
+    same-length-3
+    returns
+    one-end-requires-2
+    same-length-4
+    same-length-5
+    same-length-6
+    returns-2)
