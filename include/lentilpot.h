@@ -1,13 +1,22 @@
 /*
  * Lentilpot for a box: the receiving front end for payment files under PATU 1.22.
  *
+ * To build, at the root of the repository, with the Rattle kit:
+ *     rt staticlib edge                                                  proves the library, writes target/staticlib/libedge.a
+ *     cc -std=c99 -Iinclude box.c target/staticlib/libedge.a -o box      compiles and links; nothing else is needed
+ * On a processor that isn't x86-64: sh scripts/nativelib edge, and target/native/libedge.a.
+ *
  * A bank's table is 49,152 bytes that the box keeps (docs/FORMAT.md has every byte); a file on its way is a session of
  * lp_session_size() bytes. Every call works on the memory that it is lent and keeps none of it: no call allocates, waits,
  * reads a clock or writes anywhere else, and calls on different memory may run at the same time.
  *
  * To receive a file: lp_open; then lp_read over its bytes, handing in again what was not taken; then, once all are taken, lp_end
- * until it says finished. A call that says finished is the last one; the rest of the file is not read. Keep the table (on
- * disk, say) before a reply is told to the customer: the table holds the stamps that must not be accepted twice.
+ * until it says finished. A call that says finished is the last one; the rest of the file is not read.
+ *
+ *     SAVE THE TABLE BEFORE A REPLY IS TOLD, and before an accepted batch is paid.
+ *
+ * Saved is: on the disk, its folder flushed too. The table holds the stamps that must not be accepted twice, and a stamp that was
+ * not saved is accepted again after a crash. samples/receive.c has an order of writes that is right wherever it is cut off.
  *
  * Refusals. Every call may be refused, with one of these numbers; where several hold the lowest is given:
  *    1  the reply's room is under 317 bytes
@@ -41,11 +50,117 @@
 extern "C" {
 #endif
 
+#define LP_VERSION "1.0"       /* of these functions and constants */
+#define LP_VERSION_NUMBER 100  /* the same for #if: 100 times the first number, and the second */
+
 #define LP_TABLE_SIZE 49152  /* the bytes of a table */
 #define LP_SESSION_SIZE 475  /* the bytes of a session: what lp_session_size() says */
 #define LP_REPLY_ROOM 317    /* the least room for a reply, and the longest reply */
 #define LP_WHO_SIZE 25       /* an identity (17) and a qualifier (8) */
 #define LP_SOFTWARE_SIZE 16  /* a software name */
+
+/* The refusals above by name. */
+#define LP_SERVED 0
+#define LP_REFUSED_REPLY_ROOM 1
+#define LP_REFUSED_NO_TABLE 2
+#define LP_REFUSED_SESSION 3
+#define LP_REFUSED_DATE_OR_TIME 4
+#define LP_REFUSED_TABLE_FULL 5
+#define LP_REFUSED_CUSTOMER_IS_THERE 6
+#define LP_REFUSED_NO_CUSTOMER 7
+#define LP_REFUSED_PARITY 8
+#define LP_REFUSED_CHECK_VALUE 9
+#define LP_REFUSED_GENERATION 10
+#define LP_REFUSED_ARGUMENT 11
+#define LP_REFUSED_CHANGEOVER 12
+
+/* The codes of replies. These seven are K, accepted: */
+#define LP_CODE_ACCEPTED 1001
+#define LP_CODE_ACCEPTED_CURRENT_KEY_ENCLOSED 1002   /* the previous working key was used */
+#define LP_CODE_ACCEPTED_KEY_CHANGE_GRANTED 1003     /* the key asked for is enclosed */
+#define LP_CODE_ACCEPTED_KEY_CHANGE_REFUSED 1004     /* the customer has no leave to ask for keys */
+#define LP_CODE_ACCEPTED_KEY_CHANGE_TOO_OFTEN 1005   /* a changeover still runs */
+#define LP_CODE_ACCEPTED_CHANGEOVER_ENDED 1036
+#define LP_CODE_ACCEPTED_NO_CHANGEOVER_TO_END 1037
+/* All others are E, refused: */
+#define LP_CODE_FIELD_FORMAT 1010                    /* the notice names the field */
+#define LP_CODE_FIELD_VALUE 1011                     /* the notice names the field */
+#define LP_CODE_VERSION_TOO_OLD 1012
+#define LP_CODE_TRANSPORT_KEY_NOT_VALID 1013
+#define LP_CODE_WORKING_KEY_NOT_VALID 1014
+#define LP_CODE_DATE_TOO_OLD 1015
+#define LP_CODE_DATE_AHEAD 1016
+#define LP_CODE_ONE_TIME_KEY_USED 1017
+#define LP_CODE_STAMP_USED 1018
+#define LP_CODE_DIGEST_DIFFERS 1019
+#define LP_CODE_CHECKSUM_DIFFERS 1020
+#define LP_CODE_OTHER_RECEIVER 1021
+#define LP_CODE_SUO_MISSING 1023
+#define LP_CODE_VAR_MISSING 1024
+#define LP_CODE_TYPE_NOT_ALLOWED 1025
+#define LP_CODE_SUO_AND_VAR_DIFFER 1026              /* the notice names the field */
+#define LP_CODE_ONE_TIME_KEY_PARITY 1031
+#define LP_CODE_MESSAGE_TOO_SHORT 1032
+#define LP_CODE_UNKNOWN_CUSTOMER 1033
+#define LP_CODE_NO_ROOM 1034                         /* 64 live stamps are held, or the file is too large */
+#define LP_CODE_NOT_AGREED 1035
+
+/*
+ * Where a reply's fields stand: LP_AT_ is an offset from 0, LP_WIDTH_ a number of characters. They stand alike in both kinds, ESI
+ * and PTE; an ESI ends after the notice, and only a PTE has a receipt. A reply has no line end and no NUL; bytes C4 and D6 in its
+ * notice are A and O with dots. The numbers are the fields of document 001, appendix 1. Codes 1010 to 1012, 1021, 1023, 1024, 1032,
+ * 1033, 1035, and 1034 for a file too large, don't repeat the message: 8 is blank, 10 to 12 are zeros, 13 to 17 blank.
+ */
+#define LP_REPLY_ESI_SIZE 237
+#define LP_REPLY_PTE_SIZE 317
+#define LP_AT_KIND 0                         /*  1: >>ESI or >>PTE */
+#define LP_WIDTH_KIND 5
+#define LP_AT_SIZE 5                         /*  2: 237 or 317 */
+#define LP_WIDTH_SIZE 3
+#define LP_AT_PATU 8                         /*  3: the version of PATU, 120 */
+#define LP_WIDTH_PATU 3
+#define LP_AT_VERDICT 11                     /*  4: K or E */
+#define LP_WIDTH_VERDICT 1
+#define LP_AT_CODE 12                        /*  5: four digits, LP_CODE_... */
+#define LP_WIDTH_CODE 4
+#define LP_AT_SOFTWARE 16                    /*  6: the bank's software */
+#define LP_WIDTH_SOFTWARE 16
+#define LP_AT_METHOD 32                      /*  7: SMH */
+#define LP_WIDTH_METHOD 3
+#define LP_AT_RECEIVER 35                    /*  8: the customer, identity and qualifier */
+#define LP_WIDTH_RECEIVER 25
+#define LP_AT_SENDER 60                      /*  9: the bank, identity and qualifier */
+#define LP_WIDTH_SENDER 25
+#define LP_AT_TRANSPORT_GENERATION 85        /* 10 */
+#define LP_WIDTH_TRANSPORT_GENERATION 1
+#define LP_AT_WORKING_GENERATION 86          /* 11 */
+#define LP_WIDTH_WORKING_GENERATION 1
+#define LP_AT_STAMP 87                       /* 12: yymmddhhmmssnnn of the message */
+#define LP_WIDTH_STAMP 15
+#define LP_AT_AREA 102                       /* 13: S or A; blank in an ESI */
+#define LP_WIDTH_AREA 1
+#define LP_AT_SPARE 103                      /* 14: blank */
+#define LP_WIDTH_SPARE 9
+#define LP_AT_ONE_TIME_KEY 112               /* 15: enciphered, in hex; blank in an ESI */
+#define LP_WIDTH_ONE_TIME_KEY 16
+#define LP_AT_DIGEST 128                     /* 16: in hex; blank in an ESI */
+#define LP_WIDTH_DIGEST 16
+#define LP_AT_CHECKSUM 144                   /* 17: in hex, or blank */
+#define LP_WIDTH_CHECKSUM 16
+#define LP_AT_KEY_FLAG 160                   /* 18: 1 where a key is enclosed, else 0 */
+#define LP_WIDTH_KEY_FLAG 1
+#define LP_AT_NEW_KEY 161                    /* 19: the key enclosed, enciphered, in hex; else blank */
+#define LP_WIDTH_NEW_KEY 16
+#define LP_AT_NOTICE 177                     /* 20: HH:MM:SS, a blank, the code's text */
+#define LP_WIDTH_NOTICE 60
+#define LP_AT_RECEIPT 237                    /* 21: a PTE's alone; blank */
+#define LP_WIDTH_RECEIPT 80
+/* Within the notice: its text, and in the three codes that name a field where that name begins. It ends before a blank or colon. */
+#define LP_AT_TEXT 186
+#define LP_WIDTH_TEXT 51
+#define LP_AT_NAME_1010 206
+#define LP_AT_NAME_1011 205
+#define LP_AT_NAME_1026 193
 
 /* How many bytes a session takes. */
 uint32_t lp_session_size(void);
@@ -67,7 +182,8 @@ uint32_t lp_set_up(uint8_t *table, size_t table_len,
                    const uint32_t *holidays, size_t holidays_len);
 
 /*
- * Adds a customer with a transport key and, made from it, working key 0; stores today as the table's day.
+ * Adds a customer with a transport key and, made from it, working key 0; stores today as the table's day. lp_add_customer, below,
+ * takes the arguments by name.
  * who: 25 bytes; part1, part2: the transport key's parts; check: its check value, 24 bits; generation: 0 to 9;
  * types: the data types allowed, bit k - 1 for type k, 1 to 16; agreed, leave (to ask for keys): 0 or 1;
  * length_given: 1 where the changeover's length in calendar days follows (1 to 60), 0 for 30 days (length is then not looked at).
@@ -84,6 +200,43 @@ uint32_t lp_add(uint8_t *table, size_t table_len, uint32_t today,
                 const uint8_t *who, size_t who_len,
                 uint64_t part1, uint64_t part2, uint32_t check, uint32_t generation,
                 uint32_t types, uint32_t agreed, uint32_t leave, uint32_t length_given, uint32_t length);
+
+/* A new customer for lp_add_customer: lp_add's arguments by name. What isn't set is to be 0; a length of 0 is 30 days. */
+struct lp_customer {
+    uint8_t who[LP_WHO_SIZE]; /* lp_who fills it in */
+    uint64_t part1, part2;    /* the transport key's parts */
+    uint32_t check;           /* its check value */
+    uint32_t generation;      /* 0 to 9 */
+    uint32_t types;           /* LP_TYPE(1) | LP_TYPE(3) */
+    uint32_t agreed, leave;   /* 0 or 1 */
+    uint32_t length;          /* a changeover's calendar days, 1 to 60, or 0 */
+};
+
+/* The bit of a data type, 1 to 16. */
+#define LP_TYPE(type) (UINT32_C(1) << ((type) - 1))
+
+/*
+ * Fills in identity and qualifier, each padded with blanks to its place; a qualifier may be "". Gives 1, or 0 where one is too
+ * long: who is then 25 zero bytes, which are no customer's, so that lp_add refuses them with 11, lp_enter and lp_order with 7.
+ */
+static inline int lp_who(uint8_t who[LP_WHO_SIZE], const char *identity, const char *qualifier) {
+    size_t n = 0, m = 0;
+    while (n < 18 && identity[n]) n++;
+    while (m < 9 && qualifier[m]) m++;
+    for (size_t i = 0; i < LP_WHO_SIZE; i++) {
+        char c = ' ';
+        if (i < n) c = identity[i];
+        if (i >= 17 && i - 17 < m) c = qualifier[i - 17];
+        who[i] = (uint8_t)(n > 17 || m > 8 ? 0 : c);
+    }
+    return n <= 17 && m <= 8;
+}
+
+/* Adds a customer as lp_add does, with its refusals. */
+static inline uint32_t lp_add_customer(uint8_t *table, size_t table_len, uint32_t today, const struct lp_customer *c) {
+    return lp_add(table, table_len, today, c->who, sizeof c->who, c->part1, c->part2, c->check, c->generation,
+                  c->types, c->agreed, c->leave, c->length != 0, c->length);
+}
 
 /*
  * Enters a customer's next transport key: the current one becomes the previous one, for the customer's changeover from today;
@@ -173,22 +326,34 @@ static inline uint32_t lp_refusal(uint64_t answer) {
     return (uint32_t)(answer >> 57);
 }
 
+/* 1 where a reply accepts its message or batch (K), 0 where it refuses it (E). */
+static inline int lp_reply_accepted(const uint8_t *reply) {
+    return reply[LP_AT_VERDICT] == 'K';
+}
+
+/* A reply's code, LP_CODE_... */
+static inline uint32_t lp_reply_code(const uint8_t *reply) {
+    uint32_t code = 0;
+    for (size_t i = 0; i < LP_WIDTH_CODE; i++) code = 10 * code + reply[LP_AT_CODE + i] - '0';
+    return code;
+}
+
 /* A refusal in a few words. */
 static inline const char *lp_refusal_words(uint32_t refusal) {
     switch (refusal) {
-    case 0: return "served";
-    case 1: return "the room for a reply is too small";
-    case 2: return "no table is written as these bytes";
-    case 3: return "the session is not open, or a number in it is out of range";
-    case 4: return "a date or time isn't real, or the day is before the table's";
-    case 5: return "the table has 32 customers already";
-    case 6: return "a customer with this identity and qualifier is there already";
-    case 7: return "there is no customer with this identity and qualifier";
-    case 8: return "the parity of a key part is even";
-    case 9: return "the check value differs";
-    case 10: return "the new transport generation isn't the next";
-    case 11: return "an argument is outside its limits";
-    case 12: return "the changeover from the previous key is not past";
+    case LP_SERVED: return "served";
+    case LP_REFUSED_REPLY_ROOM: return "the room for a reply is too small";
+    case LP_REFUSED_NO_TABLE: return "no table is written as these bytes";
+    case LP_REFUSED_SESSION: return "the session is not open, or a number in it is out of range";
+    case LP_REFUSED_DATE_OR_TIME: return "a date or time isn't real, or the day is before the table's";
+    case LP_REFUSED_TABLE_FULL: return "the table has 32 customers already";
+    case LP_REFUSED_CUSTOMER_IS_THERE: return "a customer with this identity and qualifier is there already";
+    case LP_REFUSED_NO_CUSTOMER: return "there is no customer with this identity and qualifier";
+    case LP_REFUSED_PARITY: return "the parity of a key part is even";
+    case LP_REFUSED_CHECK_VALUE: return "the check value differs";
+    case LP_REFUSED_GENERATION: return "the new transport generation isn't the next";
+    case LP_REFUSED_ARGUMENT: return "an argument is outside its limits";
+    case LP_REFUSED_CHANGEOVER: return "the changeover from the previous key is not past";
     default: return "no refusal has this number";
     }
 }

@@ -1,67 +1,168 @@
-# What a run that was cut off can leave, each state made by hand: the next run tells what is the case and changes nothing, and the command that it tells mends it.
+#!/bin/bash
+# What a run that was cut off can leave, each state made by hand: the next run tells what is the case and changes nothing, and the command that it tells mends it,
+# typed in another folder.
 set -eu
 root=$(cd "$(dirname "$0")/.." && pwd -P)
-program=${PROGRAM:-$root/target/bin/lentilpot}
+program=${PROGRAM:-$root/target/program/lentilpot}
 . "$root/samples/bank.sh"
-work=$(mktemp -d)
+work=$(cd "$(mktemp -d)" && pwd -P)
 trap 'rm -rf "$work"' EXIT
 cd "$work"
 make_bank old >made
 cp old new
 receive new "$root/samples/good.txt" whole >listing
-dead=$(sh -c 'echo $$')
+dead=$(printf '%010d' "$(sh -c 'echo $$')")
 file=$root/samples/good.txt
-fail() { echo "tests/left: $state: $*" >&2; cat told >&2; exit 1; }
+fail() { echo "tests/left: $state: $*" >&2; cat told >&2; ls -la >&2; exit 1; }
+lock() { printf "$dead AAAAAAAAAAAAAAAA\\n%s" "$1" >t.lock; }
+under() { printf "$dead $1\\n%s\\n" "$work/t" >r.run; }
 
 # The next run must say the text and change nothing; then what it tells to type is typed.
 tell() { # TEXT TABLE
-    receive t "$file" r >out 2>told || true
+    got=0
+    receive t "$file" r >out 2>told || got=$?
+    [ $got -eq 2 ] || fail "status $got, expected 2"
     [ "$(wc -l <told)" -eq 1 ] && grep -qF -- "$1" told || fail "expected one line with '$1'"
     [ ! -s out ] || fail "something was listed"
     cmp -s t "$2" || fail "the table changed"
-    command=$(sed -n 's/.*To [a-z]* *[a-z]*: //p' told)
+    command=$(sed -n 's/.*To mend: //p' told)
     [ -n "$command" ] || fail "no mend is told"
-    eval "$command"
-    [ ! -e t.lock ] && [ ! -e t.new ] && [ ! -e r.new ] || fail "something is still left over"
+    (cd / && eval "$command") || fail "the mend failed"
 }
+clean() { [ ! -e t.lock ] && [ ! -e t.new ] && [ ! -e r.new ] && [ ! -e r.run ] || fail "something is still left over"; }
 
 state="a lock alone"
 cp old t
-echo "$dead" >t.lock
+lock ""
 tell "may have changed the table" old
+clean
+state="cut off before the replies were begun"
+: >t.new
+lock "$work/r
+"
+tell "did not change the table" old
+clean
 state="cut off before the table was saved"
 : >t.new
 head -c 300 whole >r.new
-printf '%s\nr\n' "$dead" >t.lock
+under AAAAAAAAAAAAAAAA
+lock "$work/r
+"
 tell "did not change the table" old
+clean
 [ ! -e r ] || fail "replies of a table that was not saved"
+state="cut off before the table was saved, while another run makes replies of that name"
+: >t.new
+head -c 300 whole >r.new
+under BBBBBBBBBBBBBBBB
+cp r.run r.run.before
+lock "$work/r
+"
+tell "did not change the table" old
+[ ! -e t.lock ] && [ ! -e t.new ] || fail "something is still left over"
+[ -e r.new ] && cmp -s r.run r.run.before || fail "the mend broke the other run's replies"
+state="replies under way whose table has no lock any more"
+tell "its lock was removed, so whether that table was saved can't be told" old
+clean
+cmp -s r.BBBBBBBBBBBBBBBB <(head -c 300 whole) || fail "the replies are lost"
+rm -f r.run.before r.BBBBBBBBBBBBBBBB
+state="a name in the lock that was cut off"
+: >t.new
+lock "$work/"
+tell "did not change the table" old
+clean
 state="cut off between the table and the replies' name"
 cp new t
 cp whole r.new
-printf '%s\nr\n' "$dead" >t.lock
+under AAAAAAAAAAAAAAAA
+lock "$work/r
+"
 tell "saved the table; its replies stand" new
+clean
+cmp -s r whole || fail "the replies are lost"
+state="the same, and another file has the name by now"
+mv r r.new
+echo other >r
+under AAAAAAAAAAAAAAAA
+lock "$work/r
+"
+tell "another file has their name by now" new
+clean
+cmp -s r.AAAAAAAAAAAAAAAA whole && [ "$(cat r)" = other ] || fail "the replies or the other file are lost"
+state="the same two, found by a run on another table"
+rm r r.AAAAAAAAAAAAAAAA
+cp whole r.new
+under AAAAAAAAAAAAAAAA
+lock "$work/r
+"
+cp old second
+got=0
+receive second "$file" r >out 2>told || got=$?
+[ $got -eq 2 ] && grep -qF "a run on the table '$work/t', runs no more and saved the table; its replies stand" told || fail "expected to be told whose they are"
+cmp -s second old || fail "the other table changed"
+command=$(sed -n 's/.*To mend: //p' told)
+(cd / && eval "$command") || fail "the mend failed"
+clean
 cmp -s r whole || fail "the replies are lost"
 state="cut off after the replies' name"
-printf '%s\nr\n' "$dead" >t.lock
-tell "saved the table; its replies are in 'r'" new
+under AAAAAAAAAAAAAAAA
+lock "$work/r
+"
+tell "saved the table; its replies are in '$work/r'" new
+clean
 cmp -s r whole || fail "the replies are lost"
-state="the same two without a lock"
-rm -f r
-cp whole r.new
-tell "holds the replies of a run that saved its table" new
+state="cut off just before the lock was removed"
+lock "$work/r
+"
+tell "saved the table; its replies are in '$work/r'" new
+clean
 cmp -s r whole || fail "the replies are lost"
+state="lock gone, table saved, listing cut off"
+receive new "$file" r >out 2>told && fail "the replies were replaced"
+cmp -s r whole && grep -qF "replies never replace one" told || fail "the replies are lost"
+lentilpot explain r >out 2>told || fail "the replies can't be shown"
+grep -q "^accepted 3, refused 0" out || fail "the replies are shown otherwise"
 state="a new table without a lock"
+rm r
 cp old t
 : >t.new
-receive t "$file" r >out 2>told || true
-grep -qF "t.new: left by a run that was cut off before it changed the table" told && [ ! -s out ] && cmp -s t old || fail "expected to be told of t.new"
-rm -f t.new r
+tell "t.new: left by a run that was cut off before it changed the table" old
+clean
 state="an empty lock"
 : >t.lock
-receive t "$file" r >out 2>told || true
-grep -qF "if no lentilpot runs on it, remove 't.lock'" told && [ ! -s out ] && cmp -s t old || fail "expected to be told of the lock"
+tell "if no lentilpot runs on it, that run did nothing. To mend: rm '$work/t.lock'" old
+clean
+state="an empty file of who makes the replies"
+: >r.run
+tell "if no lentilpot runs, that run did nothing. To mend: rm '$work/r.run'" old
+clean
+state="another program's lock"
+echo 1 >t.lock
+receive t "$file" r >out 2>told && fail "a lock was overrun"
+grep -qF "a lock that this program did not write" told && [ ! -s out ] && cmp -s t old || fail "expected to be told of the lock"
 rm -f t.lock
+# Ctrl-C and TERM leave what a kill leaves
+for signal in INT TERM; do
+    state="ended by $signal"
+    rm -f pipe
+    mkfifo pipe
+    # a job of its own, for a shell has others ignore INT
+    set -m
+    receive t pipe r >out 2>told &
+    run=$!
+    set +m
+    exec 9>pipe
+    turns=0
+    while [ ! -e r.new ] && [ $turns -lt 200 ]; do turns=$((turns + 1)); sleep 0.05; done
+    pid=$(head -n 1 t.lock | cut -c1-10 | sed 's/^0*//')
+    kill -s $signal "$pid"
+    wait $run 2>/dev/null || true
+    exec 9>&-
+    [ -e t.lock ] && [ -e t.new ] && [ -e r.new ] || fail "expected what a kill leaves"
+    tell "did not change the table" old
+    clean
+done
 state="mended"
-receive t "$file" r >out 2>told
+receive t "$file" r >out 2>told || fail "the file isn't accepted after the mends"
 cmp -s out listing && cmp -s t new || fail "the file isn't accepted after the mends"
-echo "left: what a run that was cut off can leave is told in one line and mended by what is told"
+echo "left: what a run that was cut off can leave is told in one line and mended by what is told, from any folder"

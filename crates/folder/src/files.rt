@@ -3,6 +3,7 @@
 ghost use Prim.Native.Nat.{_≤_};
 ghost use lib.ListN.{length};
 ghost use Rattle.io.specs.Counts.{Counts};
+use cli_files::Seen;
 use terminal::say;
 
 // How saving a table ended.
@@ -52,13 +53,45 @@ pub fn remove_new(name: &[u8]) {
     remove(name, b".new");
 }
 
+// Whether anything has that name, a link that leads nowhere too.
 pub fn is_there(name: &[u8], ending: &[u8]) -> bool {
-    let fd = open_beside(name, ending);
+    let mut path = io::buffer();
+    let n = beside(&mut path, name, ending);
+    let seen = cli_files::of_name(&path[..n]);
+    seen.found
+}
+
+// What a file beside a name holds, as much as the room takes; nothing where it is no regular file, of which the opening might wait.
+pub fn read_beside(name: &[u8], ending: &[u8], room: &mut [u8]) -> usize
+    ensures { λ r. ⌜ Counts r (now (room .exit)) ⌝ }
+{
+    let mut path = io::buffer();
+    let n = beside(&mut path, name, ending);
+    let seen = cli_files::of_name(&path[..n]);
+    if !cli_files::is_regular(seen.mode) {
+        return 0;
+    }
+    read_file(&path[..n], room)
+}
+
+fn read_file(path: &[u8], room: &mut [u8]) -> usize
+    ensures { λ r. ⌜ Counts r (now (room .exit)) ⌝ }
+{
+    let fd = os::open_read(path);
     if fd < 0 {
+        return 0;
+    }
+    let n = io::read_full(fd, room);
+    libc::close(fd);
+    n
+}
+
+// Whether two are the same file, whatever their names.
+pub fn is_same(a: Seen, b: Seen) -> bool {
+    if !a.found || !b.found {
         return false;
     }
-    libc::close(fd);
-    true
+    a.device == b.device && a.inode == b.inode
 }
 
 // The file beside a name takes that name.
@@ -114,12 +147,6 @@ pub fn trouble_new(what: &[u8], name: &[u8]) {
     say::trouble_beside(what, name, b".new");
 }
 
-// The end of a command that gives NAME.new its name.
-pub fn quoted_both(name: &[u8]) {
-    say::quoted(name, b".new");
-    say::quoted(name, b"");
-}
-
 pub fn wrong_size(table: &[u8]) {
     tell(
         table,
@@ -147,12 +174,66 @@ pub fn read_over(fd: i32, what: &[u8], path: &[u8]) -> isize {
     more
 }
 
-// Reads the table; whether it could be read and has a table's size.
-pub fn load(table: &[u8], t: &mut [u8]) -> bool {
+// Whether a file may be a table: saving gives the table's name to a new file, so a link, or another name, would go on with the old stamps.
+fn is_alone(table: &[u8], seen: Seen) -> bool {
+    if cli_files::is_link(seen.mode) {
+        tell(
+            table,
+            b"a link, which saving would part from its file, and stamps would be accepted twice: expected the table itself\n",
+        );
+        return false;
+    }
+    if !cli_files::is_regular(seen.mode) {
+        tell(
+            table,
+            b"not a regular file: expected a table, made by 'setup'\n",
+        );
+        return false;
+    }
+    if seen.names != 1 {
+        tell(
+            table,
+            b"a file with more than one name, which saving would part, and stamps would be accepted twice: expected a table with one name\n",
+        );
+        return false;
+    }
+    true
+}
+
+// Opens a table; -1 and what is the matter where it is none.
+fn open_table(table: &[u8]) -> i32 {
+    let seen = cli_files::of_name(table);
+    if !seen.found {
+        say::trouble(
+            b"can't open the table, expected a file of 49152 bytes, made by 'setup'",
+            table,
+        );
+        return -1;
+    }
+    if !is_alone(table, seen) {
+        return -1;
+    }
     let fd = open_told(
         b"can't open the table, expected a file of 49152 bytes, made by 'setup'",
         table,
     );
+    if fd < 0 {
+        return -1;
+    }
+    if !is_same(cli_files::of_open(fd), seen) {
+        tell(
+            table,
+            b"another file took the table's name just now: try again\n",
+        );
+        libc::close(fd);
+        return -1;
+    }
+    fd
+}
+
+// Reads the table; whether it could be read and has a table's size.
+pub fn load(table: &[u8], t: &mut [u8]) -> bool {
+    let fd = open_table(table);
     if fd < 0 {
         return false;
     }
@@ -179,9 +260,16 @@ fn is_whole(table: &[u8], fd: i32, n: usize) -> bool {
 
 // Whether a table may be set up there: no file, or an empty one. A table that is there would lose its used stamps.
 pub fn is_free(table: &[u8]) -> bool {
-    let fd = os::open_read(table);
+    let seen = cli_files::of_name(table);
+    if !seen.found {
+        return is_missing(b"can't set up a table there", table);
+    }
+    if !is_alone(table, seen) {
+        return false;
+    }
+    let fd = open_told(b"can't set up a table there", table);
     if fd < 0 {
-        return is_missing(table);
+        return false;
     }
     let got = read_over(fd, b"can't set up a table there", table);
     if 0 < got {
@@ -193,16 +281,16 @@ pub fn is_free(table: &[u8]) -> bool {
     got == 0
 }
 
-// Whether a file could not be opened because there is none.
-fn is_missing(table: &[u8]) -> bool {
+// Whether nothing was seen of a name because there is nothing.
+pub fn is_missing(what: &[u8], name: &[u8]) -> bool {
     if os::errno() == libc::ENOENT {
         return true;
     }
-    say::trouble(b"can't set up a table there", table);
+    say::trouble(what, name);
     false
 }
 
-// Makes TABLE.new, for its owner alone since it is to hold keys.
+// Makes TABLE.new. It is to hold keys, so it is its owner's alone, or the table's owner's and open to those that the table is.
 pub fn begin(table: &[u8]) -> i32 {
     let fd = make(table, b".new");
     if fd < 0 {
@@ -221,24 +309,37 @@ fn tell_unmade(table: &[u8]) {
         say::of_file(
             table,
             b".new",
-            b"left by a run that was cut off before it changed the table: remove the replies' file of that run that ends in .new, then this file, and run again\n",
+            b"left by a run that was cut off before it changed the table, and whose lock was removed. To mend: rm",
         );
+        say::quoted(table, b".new");
+        say::end_line();
         return;
     }
     trouble_new(b"can't make the new table", table);
 }
 
-// Whether TABLE.new is its owner's alone and its name has reached the disk.
+// Whether TABLE.new is kept from others and its name has reached the disk.
 fn is_kept(table: &[u8], fd: i32) -> bool {
     if libc::fchmod(fd, 0o600) != 0 {
         trouble_new(b"can't keep the new table for its owner alone", table);
         return false;
+    }
+    let seen = cli_files::of_name(table);
+    if seen.found {
+        keep_as(fd, seen);
     }
     if !flush_folder(table) {
         say::trouble(b"can't flush the folder of the table", table);
         return false;
     }
     true
+}
+
+// The table's owner and mode, where the system lets us; with another owner the mode would let in others than it did.
+fn keep_as(fd: i32, seen: Seen) {
+    if libc::fchown(fd, seen.owner, seen.group) == 0 {
+        libc::fchmod(fd, seen.mode % 0o1000);
+    }
 }
 
 // Leaves the table as it was.

@@ -1,6 +1,7 @@
 // The file of holidays that 'setup' is given.
 use crate::files;
-use terminal::asked;
+use crate::names;
+use terminal::options;
 use terminal::say;
 
 fn bad_line(path: &[u8], line: u32) {
@@ -20,16 +21,15 @@ fn no_dates() -> words::Dates {
 
 // The dates of a file of holidays; none where the word is left out.
 pub fn asked(i: usize) -> words::Dates {
-    if os::arg_count() <= i {
+    if options::count() <= i {
         return words::holidays(b"");
     }
     let mut path = io::buffer();
-    let n = os::arg(i, &mut path);
-    let word = &path[..n];
-    if !asked::is_file(b"HOLIDAYS", word) {
+    let n = names::of(i, b"HOLIDAYS", &mut path);
+    if n == 0 {
         return no_dates();
     }
-    read_holidays(word)
+    read_holidays(&path[..n])
 }
 
 fn read_holidays(path: &[u8]) -> words::Dates {

@@ -1,43 +1,79 @@
-// The file of replies: written beside its name, given the name once the table is saved, and listed as it was saved.
+// The file of replies: written beside its name, given the name once the table is saved, and listed as it was saved. It never takes a name that
+// something has.
 use crate::files;
 use crate::files::Saved;
 use crate::lock;
+use crate::run::Run;
+use crate::underway;
 use terminal::say;
 
-// Whether the replies' name can be given later. The lock of this run shows where the name is the table's own, however it is written.
+// How the listing goes: how many replies there were, how many of them are refusals, whether it ended, and whether all were read and listed.
+pub struct Listed {
+    pub replies: u64,
+    pub refused: u64,
+    pub is_ended: bool,
+    pub is_whole: bool,
+}
+
+// What the next reply of the file is.
+enum Next {
+    Accepted,
+    Refused,
+    End,
+    Unread,
+    Unwritten,
+}
+
+// Whether nothing has the replies' name. The lock and TABLE.new are there by now, so their names are taken too.
 pub fn is_free(replies: &[u8]) -> bool {
-    if files::is_there(replies, b".lock") {
-        say::expected(b"REPLIES", b"another file than TABLE, and no table in use");
-        return false;
+    let seen = cli_files::of_name(replies);
+    if !seen.found {
+        return files::is_missing(b"nothing was changed: can't make the replies", replies);
     }
-    let fd = os::open_append(replies);
-    if 0 <= fd {
-        libc::close(fd);
-        return true;
-    }
-    if os::errno() == libc::ENOENT {
-        return true;
-    }
-    say::trouble(b"can't write the replies", replies);
+    files::tell(
+        replies,
+        b"there is a file already, and replies never replace one; nothing was changed: expected the name of a new file for REPLIES\n",
+    );
     false
 }
 
-// Tells what REPLIES.new holds, and how to keep it.
-fn tell_held(replies: &[u8], what: &[u8]) {
-    say::of_file(replies, b".new", what);
-    files::quoted_both(replies);
-    say::end_line();
+// Takes the replies' name for this run and makes REPLIES.new, or says what is the matter.
+pub fn begin(replies: &[u8], table: &[u8], r: Run) -> i32 {
+    if !lock::name_replies(table, replies) {
+        say::trouble_beside(
+            b"nothing was changed: can't write the lock",
+            table,
+            b".lock",
+        );
+        return -1;
+    }
+    if !underway::begin(replies, table, r) {
+        return -1;
+    }
+    let out = files::make(replies, b".new");
+    if out < 0 {
+        tell_unmade(replies);
+        underway::end(replies);
+    }
+    out
 }
 
-pub fn tell_unmade(replies: &[u8]) {
+fn tell_unmade(replies: &[u8]) {
     if os::errno() != libc::EEXIST {
-        files::trouble_new(b"can't make the replies", replies);
+        files::trouble_new(b"nothing was changed: can't make the replies", replies);
         return;
     }
-    tell_held(
+    say::of_file(
         replies,
-        b"holds the replies of a run that saved its table and was cut off. To keep them: mv",
+        b".new",
+        b"there is a file already, which no run says is its own; nothing was changed: choose another name for REPLIES\n",
     );
+}
+
+// Removes what was made of the replies: who makes them is told until the last.
+pub fn remove(replies: &[u8]) {
+    files::remove_new(replies);
+    underway::end(replies);
 }
 
 // Nothing was changed: the replies' name leaves the lock before TABLE.new goes.
@@ -47,11 +83,11 @@ pub fn undo(table: &[u8], kept: i32) {
 }
 
 // Saves the table, then gives the replies their name; a descriptor of the replies to list, or -1.
-pub fn finish(table: &[u8], kept: i32, replies: &[u8], t: &[u8]) -> i32 {
+pub fn finish(table: &[u8], kept: i32, replies: &[u8], r: Run, t: &[u8]) -> i32 {
     let listed = files::open_beside(replies, b".new");
     if listed < 0 {
         files::trouble_new(b"nothing was changed: can't read the replies", replies);
-        files::remove_new(replies);
+        remove(replies);
         undo(table, kept);
         return -1;
     }
@@ -59,29 +95,40 @@ pub fn finish(table: &[u8], kept: i32, replies: &[u8], t: &[u8]) -> i32 {
     match saved {
         Saved::Not => {
             libc::close(listed);
-            files::remove_new(replies);
+            remove(replies);
             lock::unname_replies(table);
             files::remove_new(table);
             -1
         }
         Saved::Unflushed => {
-            tell_held(
-                replies,
-                b"holds the replies; send none before 'sync' has flushed the table's folder, then: mv",
-            );
+            tell_unflushed(replies, r);
             libc::close(listed);
             -1
         }
-        Saved::Whole => named(replies, listed),
+        Saved::Whole => named(replies, r, listed),
     }
 }
 
-fn named(replies: &[u8], listed: i32) -> i32 {
-    if !files::take_name(replies, b".new") {
-        files::trouble_new(
-            b"the table was saved, and the replies stand in the file that ends in .new, which can't be renamed",
+fn tell_unflushed(replies: &[u8], r: Run) {
+    say::of_file(
+        replies,
+        b".new",
+        b"holds the replies; send none before 'sync' has flushed the table's folder",
+    );
+    underway::tell_move(replies, r);
+    say::end_line();
+}
+
+// Gives the replies their name, which nothing has.
+fn named(replies: &[u8], r: Run, listed: i32) -> i32 {
+    if files::is_there(replies, b"") || !files::take_name(replies, b".new") {
+        say::of_file(
             replies,
+            b".new",
+            b"holds the replies, which could not be given their name; the table was saved",
         );
+        underway::tell_move(replies, r);
+        say::end_line();
         libc::close(listed);
         return -1;
     }
@@ -91,6 +138,7 @@ fn named(replies: &[u8], listed: i32) -> i32 {
             replies,
         );
     }
+    underway::end(replies);
     listed
 }
 
@@ -112,20 +160,97 @@ pub fn is_put(out: i32, replies: &[u8], room: &[u8], length: usize) -> bool {
     false
 }
 
-// Reads the replies back, as they were saved, and lists them.
-pub fn list(fd: i32, replies: &[u8]) {
+// ---- the listing
+
+// Reads the replies back, as they were saved, counts them and, where they are to be shown, lists them.
+pub fn list(fd: i32, replies: &[u8], is_shown: bool) -> Listed {
+    let mut l = Listed {
+        replies: 0,
+        refused: 0,
+        is_ended: false,
+        is_whole: false,
+    };
     let mut turns = u64::MAX;
-    while turns > 0 && is_listed(fd, replies) {
+    while turns > 0 {
+        l = listed_one(fd, replies, is_shown, l);
+        if l.is_ended {
+            return l;
+        }
         turns -= 1;
+    }
+    l
+}
+
+// One reply more, or the end, told where something is the matter.
+fn listed_one(fd: i32, replies: &[u8], is_shown: bool, l: Listed) -> Listed {
+    let next = next_listed(fd, is_shown);
+    match next {
+        Next::Accepted => more(l, 0),
+        Next::Refused => more(l, 1),
+        Next::End => ended(l, true),
+        Next::Unread => {
+            say::trouble(
+                b"the table was saved and the replies are in this file, which can't be read back",
+                replies,
+            );
+            ended(l, false)
+        }
+        Next::Unwritten => {
+            say::of_file(
+                replies,
+                b"",
+                b"the table was saved and the replies are in this file; they can't be listed: ",
+            );
+            os::fail(b"standard output");
+            ended(l, false)
+        }
     }
 }
 
-// The next reply: K or E and the code; whether there was one.
-fn is_listed(fd: i32, replies: &[u8]) -> bool {
+fn more(l: Listed, refused: u64) -> Listed {
+    Listed {
+        replies: std::num::wrapping_add_u64(l.replies, 1),
+        refused: std::num::wrapping_add_u64(l.refused, refused),
+        is_ended: false,
+        is_whole: false,
+    }
+}
+
+fn ended(l: Listed, is_whole: bool) -> Listed {
+    Listed {
+        replies: l.replies,
+        refused: l.refused,
+        is_ended: true,
+        is_whole,
+    }
+}
+
+// Reads as much as the room takes; how much, or -1 where a read fails.
+fn read_whole(fd: i32, room: &mut [u8]) -> isize {
+    let n = room.len();
+    let got = io::read_full(fd, room);
+    if got == n {
+        return 1;
+    }
+    let mut over = [0u8; 1];
+    if got == 0 && libc::read(fd, &mut over) == 0 {
+        return 0;
+    }
+    -1
+}
+
+// The next reply: K or E and the code.
+fn next_listed(fd: i32, is_shown: bool) -> Next {
     let mut head = [0u8; 16];
-    let n = io::read_full(fd, &mut head);
-    if n != 16 {
-        return false;
+    let got = read_whole(fd, &mut head);
+    if got == 0 {
+        return Next::End;
+    }
+    if got < 0 {
+        return Next::Unread;
+    }
+    if !is_rest_read(fd, head[2]) {
+        return Next::Unread;
     }
     let line = [
         head[11],
@@ -136,24 +261,21 @@ fn is_listed(fd: i32, replies: &[u8]) -> bool {
         head[15],
         b'\n',
     ];
-    if !say::out(&line) {
-        files::tell(
-            replies,
-            b"the table was saved and the replies are in this file: can't list them on standard output\n",
-        );
-        return false;
+    if is_shown && !say::out(&line) {
+        return Next::Unwritten;
     }
-    skip(fd, head[2]);
-    true
+    if head[11] == b'K' {
+        return Next::Accepted;
+    }
+    Next::Refused
 }
 
 // The rest of an ESI of 237 or of a PTE of 317 characters, and its LF.
-fn skip(fd: i32, kind: u8) {
+fn is_rest_read(fd: i32, kind: u8) -> bool {
     if kind == b'E' {
         let mut rest = [0u8; 222];
-        io::read_full(fd, &mut rest);
-        return;
+        return read_whole(fd, &mut rest) == 1;
     }
     let mut rest = [0u8; 302];
-    io::read_full(fd, &mut rest);
+    read_whole(fd, &mut rest) == 1
 }

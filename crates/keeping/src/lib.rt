@@ -3,20 +3,18 @@ use folder::files;
 use folder::files::Saved;
 use folder::holidays;
 use folder::lock;
+use folder::names;
 use terminal::asked;
+use terminal::options;
 use terminal::say;
+use terminal::status::Status;
 
 // Saves the table that a served call left, and answers.
-fn answer(table: &[u8], t: &[u8], refusal: u32) {
-    if refusal != 0 {
-        lock::release(table);
-        say::answer(refusal);
-        return;
-    }
+fn saved(table: &[u8], t: &[u8]) -> Status {
     let fd = files::begin(table);
     if fd < 0 {
         lock::release(table);
-        return;
+        return Status::Trouble;
     }
     let saved = files::save(table, fd, t);
     if let Saved::Not = saved {
@@ -24,48 +22,73 @@ fn answer(table: &[u8], t: &[u8], refusal: u32) {
     }
     lock::release(table);
     if let Saved::Whole = saved {
-        say::answer(0);
+        return say::answer(0);
     }
+    Status::Trouble
+}
+
+// Answers a call on that day.
+fn answer(table: &[u8], t: &[u8], today: calendar::Date, refusal: u32) -> Status {
+    if refusal == 0 {
+        return saved(table, t);
+    }
+    lock::release(table);
+    cli_days::answer(t, today, 0, refusal)
+}
+
+// Takes the table and loads it for a call on that day; the lock stays only where that succeeds.
+fn is_loaded(table: &[u8], t: &mut [u8], today: calendar::Date) -> bool {
+    let r = lock::take(table);
+    if r.process == 0 {
+        return false;
+    }
+    if files::load(table, t) {
+        if cli_days::is_meant(t, today) {
+            return true;
+        }
+    }
+    lock::release(table);
+    false
 }
 
 // ---- setup
 
-pub fn setup() {
-    if !asked::are_as_many(
-        9,
-        10,
-        b"setup TABLE BANK QUALIFIER SOFTWARE FLOOR K V [HOLIDAYS]\n",
-    ) {
-        return;
+pub fn setup() -> Status {
+    if !asked::are_as_many(1, 9, 10) {
+        return Status::Trouble;
+    }
+    if !options::are_taken(false, false) {
+        return Status::Trouble;
     }
     let mut table = io::buffer();
-    let n = os::arg(2, &mut table);
-    if asked::is_file(b"TABLE", &table[..n]) {
-        setup_words(&table[..n]);
+    let n = names::of(2, b"TABLE", &mut table);
+    if n == 0 {
+        return Status::Trouble;
     }
+    setup_words(&table[..n])
 }
 
-fn setup_words(table: &[u8]) {
+fn setup_words(table: &[u8]) -> Status {
     let bank = asked::who(3, b"BANK");
     if !bank.good {
-        return;
+        return Status::Trouble;
     }
     let software = asked::software(5);
     if !software.good {
-        return;
+        return Status::Trouble;
     }
     let words::Number::Is(floor) = asked::digits(6, 1, 9, b"FLOOR", b"110 or 120") else {
-        return;
+        return Status::Trouble;
     };
     let words::Block::Of(key) = asked::key(7, b"K") else {
-        return;
+        return Status::Trouble;
     };
     let words::Block::Of(seed) = asked::key(8, b"V") else {
-        return;
+        return Status::Trouble;
     };
     let d = holidays::asked(9);
     if !d.good {
-        return;
+        return Status::Trouble;
     }
     let who = bank.who;
     let name = software.name;
@@ -76,21 +99,26 @@ fn setup_words(table: &[u8]) {
         key,
         seed,
     };
-    set_up(table, s, d);
+    set_up(table, s, d)
 }
 
-fn set_up(table: &[u8], s: register::Setting, d: words::Dates) {
-    if !lock::take(table) {
-        return;
+fn set_up(table: &[u8], s: register::Setting, d: words::Dates) -> Status {
+    let r = lock::take(table);
+    if r.process == 0 {
+        return Status::Trouble;
     }
     if !files::is_free(table) {
         lock::release(table);
-        return;
+        return Status::Trouble;
     }
     let mut t = [0u8; 49152];
     let dates = d.dates;
     let refusal = set_up_with(&mut t, s, &dates, d.count);
-    answer(table, &t, refusal);
+    if refusal == 0 {
+        return saved(table, &t);
+    }
+    lock::release(table);
+    cli_days::answer_setup(&dates, refusal)
 }
 
 // The first n dates are the holidays.
@@ -105,48 +133,48 @@ fn set_up_with(t: &mut [u8], s: register::Setting, dates: &[u32], n: usize) -> u
 
 // A changeover's length; where the word is left out, the number isn't used.
 fn length_of(i: usize) -> words::Number {
-    if os::arg_count() <= i {
+    if options::count() <= i {
         return words::Number::Is(0);
     }
     asked::digits(i, 1, 9, b"LENGTH", b"days, 1 to 60")
 }
 
-pub fn add() {
-    if !asked::are_as_many(
-        13,
-        14,
-        b"add TABLE DATE IDENTITY QUALIFIER PART1 PART2 CHECK GENERATION TYPES AGREED LEAVE [LENGTH]\n",
-    ) {
-        return;
+pub fn add() -> Status {
+    if !asked::are_as_many(2, 13, 14) {
+        return Status::Trouble;
+    }
+    if !options::are_taken(true, false) {
+        return Status::Trouble;
     }
     let mut table = io::buffer();
-    let n = os::arg(2, &mut table);
-    if asked::is_file(b"TABLE", &table[..n]) {
-        add_words(&table[..n]);
+    let n = names::of(2, b"TABLE", &mut table);
+    if n == 0 {
+        return Status::Trouble;
     }
+    add_words(&table[..n])
 }
 
-fn add_words(table: &[u8]) {
+fn add_words(table: &[u8]) -> Status {
     let k = asked_key();
     if !k.good {
-        return;
+        return Status::Trouble;
     }
     let words::Number::Is(types) = asked::types(10) else {
-        return;
+        return Status::Trouble;
     };
     let words::Number::Is(agreed) = asked::choice(11, b"AGREED") else {
-        return;
+        return Status::Trouble;
     };
     let words::Number::Is(leave) = asked::choice(12, b"LEAVE") else {
-        return;
+        return Status::Trouble;
     };
     let words::Number::Is(days) = length_of(13) else {
-        return;
+        return Status::Trouble;
     };
     let e = k.entering;
     let today = e.today;
     let who = e.who;
-    let length = if os::arg_count() < 14 {
+    let length = if options::count() < 14 {
         conditions::Length::LeftOut
     } else {
         conditions::Length::Given(calendar::CalendarDays(days))
@@ -163,20 +191,17 @@ fn add_words(table: &[u8]) {
         leave: leave == 1,
         length,
     };
-    add_to(table, a);
+    add_to(table, a)
 }
 
-fn add_to(table: &[u8], a: register::Adding) {
-    if !lock::take(table) {
-        return;
-    }
+fn add_to(table: &[u8], a: register::Adding) -> Status {
+    let today = a.today;
     let mut t = [0u8; 49152];
-    if !files::load(table, &mut t) {
-        lock::release(table);
-        return;
+    if !is_loaded(table, &mut t, today) {
+        return Status::Trouble;
     }
     let refusal = register::add(&mut t, a);
-    answer(table, &t, refusal);
+    answer(table, &t, today, refusal)
 }
 
 // ---- key
@@ -237,76 +262,76 @@ fn asked_key() -> Entered {
     }
 }
 
-pub fn key() {
-    if !asked::are_as_many(
-        10,
-        10,
-        b"key TABLE DATE IDENTITY QUALIFIER PART1 PART2 CHECK GENERATION\n",
-    ) {
-        return;
+pub fn key() -> Status {
+    if !asked::are_as_many(3, 10, 10) {
+        return Status::Trouble;
+    }
+    if !options::are_taken(true, false) {
+        return Status::Trouble;
     }
     let mut table = io::buffer();
-    let n = os::arg(2, &mut table);
-    if !asked::is_file(b"TABLE", &table[..n]) {
-        return;
+    let n = names::of(2, b"TABLE", &mut table);
+    if n == 0 {
+        return Status::Trouble;
     }
     let k = asked_key();
     if !k.good {
-        return;
+        return Status::Trouble;
     }
     let e = k.entering;
-    enter(&table[..n], e);
+    enter(&table[..n], e)
 }
 
-fn enter(table: &[u8], e: register::Entering) {
-    if !lock::take(table) {
-        return;
-    }
+fn enter(table: &[u8], e: register::Entering) -> Status {
+    let today = e.today;
     let mut t = [0u8; 49152];
-    if !files::load(table, &mut t) {
-        lock::release(table);
-        return;
+    if !is_loaded(table, &mut t, today) {
+        return Status::Trouble;
     }
     let refusal = register::enter(&mut t, e);
-    answer(table, &t, refusal);
+    answer(table, &t, today, refusal)
 }
 
 // ---- order
 
-pub fn order() {
-    if !asked::are_as_many(7, 7, b"order TABLE DATE IDENTITY QUALIFIER CLOCK\n") {
-        return;
+pub fn order() -> Status {
+    if !asked::are_as_many(4, 7, 7) {
+        return Status::Trouble;
+    }
+    if !options::are_taken(true, false) {
+        return Status::Trouble;
     }
     let mut table = io::buffer();
-    let n = os::arg(2, &mut table);
-    if !asked::is_file(b"TABLE", &table[..n]) {
-        return;
+    let n = names::of(2, b"TABLE", &mut table);
+    if n == 0 {
+        return Status::Trouble;
     }
+    order_words(&table[..n])
+}
+
+fn order_words(table: &[u8]) -> Status {
     let words::Number::Is(day) = asked::date(3) else {
-        return;
+        return Status::Trouble;
     };
     let customer = asked::who(4, b"IDENTITY");
     if !customer.good {
-        return;
+        return Status::Trouble;
     }
     let words::Block::Of(clock) = asked::key(6, b"CLOCK") else {
-        return;
+        return Status::Trouble;
     };
     let who = customer.who;
     let today = calendar::Date { yymmdd: day };
     let o = register::Ordering { today, who, clock };
-    order_in(&table[..n], o);
+    order_in(table, o)
 }
 
-fn order_in(table: &[u8], o: register::Ordering) {
-    if !lock::take(table) {
-        return;
-    }
+fn order_in(table: &[u8], o: register::Ordering) -> Status {
+    let today = o.today;
     let mut t = [0u8; 49152];
-    if !files::load(table, &mut t) {
-        lock::release(table);
-        return;
+    if !is_loaded(table, &mut t, today) {
+        return Status::Trouble;
     }
     let refusal = register::order(&mut t, o);
-    answer(table, &t, refusal);
+    answer(table, &t, today, refusal)
 }

@@ -1,13 +1,17 @@
-// The command show: what a table holds, with check values for keys.
+// The command show: what a table holds, with check values for keys. Each part says whether it could be written.
 ghost use Prim.Native.Nat.{_≤_};
 ghost use lib.ListN.{length};
 use folder::files;
+use folder::names;
 use libc::STDOUT_FILENO;
 use terminal::asked;
+use terminal::options;
 use terminal::say;
+use terminal::status;
+use terminal::status::Status;
 
-fn number(n: u64) {
-    io::print_decimal(STDOUT_FILENO, n);
+fn number(n: u64) -> bool {
+    io::print_decimal(STDOUT_FILENO, n)
 }
 
 // How long a name is without the blanks at its end.
@@ -25,126 +29,143 @@ fn trimmed(s: &[u8]) -> usize
 }
 
 // A name in quotes, of which no name has any.
-fn name(s: &[u8]) {
+fn name(s: &[u8]) -> bool {
     let n = trimmed(s);
-    say::out(b"\"");
-    say::out(&s[..n]);
-    say::out(b"\"");
+    say::out(b"\"") && say::out(&s[..n]) && say::out(b"\"")
 }
 
 // An identity of n characters, and the qualifier after it.
-fn who(label: &[u8], who: &[u8], n: usize) {
+fn who(label: &[u8], who: &[u8], n: usize) -> bool {
     if who.len() < n {
-        return;
+        return false;
     }
-    say::out(label);
-    name(&who[..n]);
-    say::out(b" qualifier ");
-    name(&who[n..]);
-    say::out(b"\n");
+    say::out(label)
+        && name(&who[..n])
+        && say::out(b" qualifier ")
+        && name(&who[n..])
+        && say::out(b"\n")
 }
 
-fn date(d: calendar::Date) {
+fn date(d: calendar::Date) -> bool {
     let mut six = [0u8; 6];
     text::write_number(&mut six, d.yymmdd as u64);
-    say::out(&six);
+    say::out(&six)
 }
 
-fn yes_or_no(label: &[u8], is_so: bool) {
-    say::out(label);
-    if is_so {
-        say::out(b"yes\n");
-    } else {
-        say::out(b"no\n");
+fn yes_or_no(label: &[u8], is_so: bool) -> bool {
+    if !say::out(label) {
+        return false;
     }
+    if is_so {
+        return say::out(b"yes\n");
+    }
+    say::out(b"no\n")
 }
 
 // ---- the bank
 
-fn holiday(d: u32) {
-    say::out(b" ");
-    date(calendar::Date { yymmdd: d });
+fn holiday(d: u32) -> bool {
+    say::out(b" ") && date(calendar::Date { yymmdd: d })
 }
 
-fn holidays(h: table::Holidays) {
-    say::out(b"holidays    ");
-    number(h.count as u64);
+fn holidays(h: table::Holidays) -> bool {
+    if !(say::out(b"holidays    ") && number(h.count as u64)) {
+        return false;
+    }
     let mut i = 0;
     while i < 200 {
         if (i as u32) < h.count {
-            holiday(h.dates[i]);
+            if !holiday(h.dates[i]) {
+                return false;
+            }
         }
         i += 1;
     }
-    say::out(b"\n");
+    say::out(b"\n")
 }
 
-fn bank(t: &[u8]) {
-    say::out(b"day         ");
-    date(table::day(t));
-    say::out(b"\n");
-    let s = table::settings(t);
+fn settings(s: customer::Settings) -> bool {
     let bank = s.bank;
-    who(b"bank        ", &bank, 17);
-    say::out(b"software    ");
     let software = s.software;
-    name(&software);
-    say::out(b"\nfloor       ");
-    number(s.floor as u64);
-    say::out(b"\n");
-    holidays(table::holidays_in(t));
-    say::out(b"customers   ");
-    number(table::customer_count(t) as u64);
-    say::out(b"\n");
+    who(b"bank        ", &bank, 17)
+        && say::out(b"software    ")
+        && name(&software)
+        && say::out(b"\nfloor       ")
+        && number(s.floor as u64)
+        && say::out(b"\n")
+}
+
+fn bank(t: &[u8]) -> bool {
+    say::out(b"day         ")
+        && date(table::day(t))
+        && say::out(b"\n")
+        && settings(table::settings(t))
+        && holidays(table::holidays_in(t))
+        && say::out(b"customers   ")
+        && number(table::customer_count(t) as u64)
+        && say::out(b"\n")
 }
 
 // ---- a customer
 
+fn listed_type(k: u64, is_first: bool) -> bool {
+    if is_first {
+        return number(k);
+    }
+    say::out(b",") && number(k)
+}
+
 // Type k is bit k - 1.
-fn types(mask: u32) {
+fn types(mask: u32) -> bool {
     if mask == 0 {
-        say::out(b"-");
-        return;
+        return say::out(b"-");
     }
     let mut rest = mask;
     let mut k: u64 = 1;
     let mut is_first = true;
     while k <= 16 {
         if rest % 2 == 1 {
-            if !is_first {
-                say::out(b",");
+            if !listed_type(k, is_first) {
+                return false;
             }
-            number(k);
             is_first = false;
         }
         rest = rest / 2;
         k += 1;
     }
+    true
 }
 
-fn generation(g: u32, key: u64) {
-    number(g as u64);
-    say::out(b" check value ");
+fn generation(g: u32, key: u64) -> bool {
     let value = text::hex_digits(keys::check_value(key));
-    say::out(&value[10..]);
+    number(g as u64) && say::out(b" check value ") && say::out(&value[10..])
 }
 
-fn key_pair(label: &[u8], k: customer::KeyPair) {
-    say::out(label);
-    say::out(b"generation ");
-    generation(k.generation, k.key);
-    let previous = k.previous;
-    if let customer::Previous::Held(c) = previous {
-        let first = c.first;
-        let last = c.last;
-        say::out(b", previous ");
-        generation(c.generation, c.key);
-        say::out(b" changeover ");
-        date(first);
-        say::out(b" to ");
-        date(last);
+// The previous key's days; past its last day no message may name it any more.
+fn days(c: customer::Changeover, today: calendar::Date) -> bool {
+    let first = c.first;
+    let last = c.last;
+    let is_written = say::out(b" changeover ") && date(first) && say::out(b" to ") && date(last);
+    if is_written && last.before(today) {
+        return say::out(b" (past)");
     }
-    say::out(b"\n");
+    is_written
+}
+
+fn previous(p: customer::Previous, today: calendar::Date) -> bool {
+    let customer::Previous::Held(c) = p else {
+        return true;
+    };
+    say::out(b", previous ") && generation(c.generation, c.key) && days(c, today)
+}
+
+fn key_pair(label: &[u8], k: customer::KeyPair, today: calendar::Date) -> bool {
+    let before = k.previous;
+    say::out(label)
+        && say::out(b"generation ")
+        && generation(k.generation, k.key)
+        && previous(before, today)
+        && say::out(b"\n")
 }
 
 // How many stamps are not too old on a day, with the first n dates for holidays.
@@ -155,65 +176,100 @@ fn live(c: customer::Customer, today: calendar::Date, dates: &[u32], n: usize) -
     acceptance::live_count(c, today, &dates[..n])
 }
 
-fn stamps(t: &[u8], c: customer::Customer) {
+fn stamps(t: &[u8], c: customer::Customer) -> bool {
     let h = table::holidays_in(t);
     let dates = h.dates;
     let n = live(c, table::day(t), &dates, h.count as usize);
-    say::out(b"  stamps     ");
-    number(n as u64);
-    say::out(b" live\n");
+    say::out(b"  stamps     ") && number(n as u64) && say::out(b" of 64 held\n")
 }
 
-fn customer_at(t: &[u8], i: usize) {
+fn permits(c: customer::Customer) -> bool {
+    yes_or_no(b"  agreed     ", c.agreed)
+        && yes_or_no(b"  leave      ", c.leave)
+        && say::out(b"  types      ")
+        && types(c.types)
+        && say::out(b"\n  changeover ")
+        && number(c.length.0 as u64)
+        && say::out(b" days\n")
+}
+
+fn customer_at(t: &[u8], i: usize) -> bool {
     let c = table::load(t, i);
     let identity = c.who;
     let transport = c.transport;
     let working = c.working;
-    who(b"\ncustomer    ", &identity, 17);
-    yes_or_no(b"  agreed     ", c.agreed);
-    yes_or_no(b"  leave      ", c.leave);
-    say::out(b"  types      ");
-    types(c.types);
-    say::out(b"\n  changeover ");
-    number(c.length.0 as u64);
-    say::out(b" days\n");
-    key_pair(b"  transport  ", transport);
-    key_pair(b"  working    ", working);
-    stamps(t, c);
+    let today = table::day(t);
+    who(b"\ncustomer    ", &identity, 17)
+        && permits(c)
+        && key_pair(b"  transport  ", transport, today)
+        && key_pair(b"  working    ", working, today)
+        && stamps(t, c)
 }
 
-fn customers(t: &[u8]) {
+fn customers(t: &[u8]) -> bool {
     let n = table::customer_count(t);
     let mut i = 0;
     while i < 32 {
         if (i as u32) < n {
-            customer_at(t, i);
+            if !customer_at(t, i) {
+                return false;
+            }
         }
         i += 1;
     }
+    true
 }
 
-fn show_file(path: &[u8]) {
-    let mut t = [0u8; 49152];
-    if !files::load(path, &mut t) {
-        return;
-    }
-    if !table::is_table(&t) {
-        say::answer(2);
-        return;
-    }
-    bank(&t);
-    customers(&t);
+// ---- the command
+
+fn shown(is_written: bool) -> Status {
+    status::served_if(say::is_said(is_written, b"the table can't be shown: "))
 }
 
-pub fn show() {
-    if !asked::are_as_many(3, 3, b"show TABLE\n") {
-        return;
+// The bank's day and one customer.
+fn one(t: &[u8], who: [u8; 25]) -> Status {
+    let found = table::find(t, who);
+    let table::Found::At(i) = found else {
+        return say::answer(7);
+    };
+    let is_written = say::out(b"day         ") && date(table::day(t)) && say::out(b"\n");
+    shown(is_written && customer_at(t, i))
+}
+
+fn show_table(t: &[u8]) -> Status {
+    if !table::is_table(t) {
+        return say::answer(2);
+    }
+    if options::count() == 3 {
+        return shown(bank(t) && customers(t));
+    }
+    let customer = asked::who(3, b"IDENTITY");
+    if !customer.good {
+        return Status::Trouble;
+    }
+    let who = customer.who;
+    one(t, who)
+}
+
+pub fn show() -> Status {
+    if !asked::are_as_many(6, 3, 5) {
+        return Status::Trouble;
+    }
+    if options::count() == 4 {
+        say::expected(b"QUALIFIER", b"a word after IDENTITY, \"\" for a blank one");
+        return Status::Trouble;
+    }
+    if !options::are_taken(false, false) {
+        return Status::Trouble;
     }
     let mut path = io::buffer();
-    let n = os::arg(2, &mut path);
-    if !asked::is_file(b"TABLE", &path[..n]) {
-        return;
+    let n = names::of(2, b"TABLE", &mut path);
+    if n == 0 {
+        return Status::Trouble;
     }
-    show_file(&path[..n]);
+    let mut t = [0u8; 49152];
+    if !files::load(&path[..n], &mut t) {
+        return Status::Trouble;
+    }
+    show_table(&t)
 }

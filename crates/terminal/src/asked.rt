@@ -1,5 +1,8 @@
 // The words of the command line, each in its form; where one is not, a line says what is expected.
+use crate::help;
+use crate::options;
 use crate::say;
+use crate::secret;
 
 // An identity or a bank with its qualifier.
 pub struct Named {
@@ -33,8 +36,8 @@ pub fn are_whole() -> bool {
 }
 
 // Whether there are as many words as the command takes; the two that come before them are the program and the command.
-pub fn are_as_many(low: usize, high: usize, words: &[u8]) -> bool {
-    let n = os::arg_count();
+pub fn are_as_many(command: u32, low: usize, high: usize) -> bool {
+    let n = options::count();
     if n < low {
         say::err(b"lentilpot: too few words: expected ");
     } else if high < n {
@@ -42,7 +45,7 @@ pub fn are_as_many(low: usize, high: usize, words: &[u8]) -> bool {
     } else {
         return true;
     }
-    say::err(words);
+    help::tell_words(command);
     false
 }
 
@@ -56,13 +59,32 @@ pub fn is_file(name: &[u8], word: &[u8]) -> bool {
         say::expected(name, b"the name of a file, of at most 4000 bytes");
         return false;
     }
+    if has_control(word) {
+        say::expected(name, b"the name of a file, without control characters");
+        return false;
+    }
     true
+}
+
+// A name with an LF or another control character could not be told in one line, nor typed as it is told.
+pub fn has_control(word: &[u8]) -> bool {
+    let mut i = 0;
+    while i < word.len() {
+        if word[i] < b' ' {
+            return true;
+        }
+        if word[i] == 0x7F {
+            return true;
+        }
+        i += 1;
+    }
+    false
 }
 
 // A word of `low` to `high` digits.
 pub fn digits(i: usize, low: usize, high: usize, name: &[u8], what: &[u8]) -> words::Number {
     let mut word = io::buffer();
-    let n = os::arg(i, &mut word);
+    let n = options::word(i, &mut word);
     let value = words::digits(&word[..n], low, high);
     if let words::Number::Bad = value {
         say::expected(name, what);
@@ -79,27 +101,17 @@ pub fn generation(i: usize) -> words::Number {
 }
 
 // A key, a clock value or a check value.
-pub fn block(i: usize, width: usize, name: &[u8], what: &[u8]) -> words::Block {
-    let mut word = io::buffer();
-    let n = os::arg(i, &mut word);
-    let value = words::hex_digits(&word[..n], width);
-    if let words::Block::Wrong = value {
-        say::expected(name, what);
-    }
-    value
-}
-
 pub fn key(i: usize, name: &[u8]) -> words::Block {
-    block(i, 16, name, b"16 hex digits, 0-9 and A-F")
+    secret::block(i, 16, name, b"16 hex digits, 0-9 and A-F")
 }
 
 pub fn check(i: usize) -> words::Block {
-    block(i, 6, b"CHECK", b"6 hex digits, 0-9 and A-F")
+    secret::block(i, 6, b"CHECK", b"6 hex digits, 0-9 and A-F")
 }
 
 pub fn choice(i: usize, name: &[u8]) -> words::Number {
     let mut word = io::buffer();
-    let n = os::arg(i, &mut word);
+    let n = options::word(i, &mut word);
     let value = words::choice(&word[..n]);
     if let words::Number::Bad = value {
         say::expected(name, b"yes or no");
@@ -109,7 +121,7 @@ pub fn choice(i: usize, name: &[u8]) -> words::Number {
 
 pub fn types(i: usize) -> words::Number {
     let mut word = io::buffer();
-    let n = os::arg(i, &mut word);
+    let n = options::word(i, &mut word);
     let value = words::types(&word[..n]);
     if let words::Number::Bad = value {
         say::expected(b"TYPES", b"types from 1 to 16 as 1,3,16, or - for none");
@@ -119,11 +131,11 @@ pub fn types(i: usize) -> words::Number {
 
 // Bytes a read; all that is read at once where the word is left out.
 pub fn read_size(i: usize) -> words::Number {
-    if os::arg_count() <= i {
+    if options::count() <= i {
         return words::Number::Is(65536);
     }
     let mut word = io::buffer();
-    let n = os::arg(i, &mut word);
+    let n = options::word(i, &mut word);
     let value = words::read_size(&word[..n]);
     if let words::Number::Bad = value {
         say::expected(b"READ", b"a number from 1 to 65536");
@@ -143,7 +155,7 @@ fn is_fit(word: &[u8], most: usize, name: &[u8], what: &[u8]) -> bool {
 // Two words, from word i on.
 pub fn who(i: usize, name: &[u8]) -> Named {
     let mut identity = io::buffer();
-    let n = os::arg(i, &mut identity);
+    let n = options::word(i, &mut identity);
     if !is_fit(&identity[..n], 17, name, b"at most 17 characters") {
         return Named {
             good: false,
@@ -156,7 +168,7 @@ pub fn who(i: usize, name: &[u8]) -> Named {
 // An identity and the qualifier at word i.
 fn qualified(identity: &[u8], i: usize) -> Named {
     let mut qualifier = io::buffer();
-    let n = os::arg(i, &mut qualifier);
+    let n = options::word(i, &mut qualifier);
     let word = &qualifier[..n];
     if !is_fit(
         word,
@@ -181,7 +193,7 @@ fn next(i: usize) -> usize {
 
 pub fn software(i: usize) -> Titled {
     let mut word = io::buffer();
-    let n = os::arg(i, &mut word);
+    let n = options::word(i, &mut word);
     if !is_fit(&word[..n], 16, b"SOFTWARE", b"at most 16 characters") {
         return Titled {
             good: false,

@@ -1,4 +1,6 @@
 // What is said: answers on standard output, trouble on standard error, one line each.
+use crate::status;
+use crate::status::Status;
 use libc::STDERR_FILENO;
 use libc::STDOUT_FILENO;
 
@@ -50,10 +52,27 @@ pub fn of_file(path: &[u8], ending: &[u8], what: &[u8]) {
     err(what);
 }
 
+// A byte of a name in quotes: a quote itself is written '\'' , so that what is told can be typed for any name.
+fn quoted_byte(b: u8) {
+    if b == b'\'' {
+        err(b"'\\''");
+        return;
+    }
+    err(&[b]);
+}
+
+fn inside_quotes(name: &[u8]) {
+    let mut i = 0;
+    while i < name.len() {
+        quoted_byte(name[i]);
+        i += 1;
+    }
+}
+
 // A file's name in a command to type.
 pub fn quoted(path: &[u8], ending: &[u8]) {
     err(b" '");
-    err(path);
+    inside_quotes(path);
     err(ending);
     err(b"'");
 }
@@ -76,47 +95,32 @@ fn reason(refusal: u32) -> bool {
     }
 }
 
-// The answer line of a call.
-pub fn answer(refusal: u32) {
-    if refusal == 0 {
-        if !out(b"ok\n") {
-            err(b"lentilpot: the call was served, and 'ok' can't be written to standard output\n");
-        }
-        return;
+// A line of an answer that was written, or that could not be.
+pub fn is_said(is_written: bool, what: &[u8]) -> bool {
+    if !is_written {
+        err(b"lentilpot: ");
+        err(what);
+        os::fail(b"standard output");
     }
-    out(b"refused ");
-    io::print_decimal(STDOUT_FILENO, refusal as u64);
-    out(b": ");
-    if !reason(refusal) {
-        err(
-            b"lentilpot: the call was refused, and the answer can't be written to standard output\n",
-        );
-    }
+    is_written
 }
 
-// One text as it is shown, and so one write.
-pub fn help() {
-    out(
-        b"lentilpot setup   TABLE BANK QUALIFIER SOFTWARE FLOOR K V [HOLIDAYS]
-lentilpot add     TABLE DATE IDENTITY QUALIFIER PART1 PART2 CHECK GENERATION TYPES AGREED LEAVE [LENGTH]
-lentilpot key     TABLE DATE IDENTITY QUALIFIER PART1 PART2 CHECK GENERATION
-lentilpot order   TABLE DATE IDENTITY QUALIFIER CLOCK
-lentilpot receive TABLE DATE TIME TYPE CLOCK FILE REPLIES [READ]
-lentilpot show    TABLE
-lentilpot help
+fn refused(refusal: u32) -> bool {
+    out(b"refused ") && io::print_decimal(STDOUT_FILENO, refusal as u64) && out(b": ")
+}
 
-TABLE, FILE, REPLIES, HOLIDAYS  names of files; HOLIDAYS has one yymmdd a line
-DATE, TIME                      yymmdd and hhmmss
-K, V, PART1, PART2, CLOCK       16 hex digits, 0-9 and A-F; CHECK 6 of them
-GENERATION                      one digit
-BANK, IDENTITY                  up to 17 characters; SOFTWARE up to 16; QUALIFIER up to 8, \"\" for a blank one
-FLOOR                           110 or 120
-TYPE, TYPES                     1 to 16; types as 1,3,16 or - for none
-AGREED, LEAVE                   yes or no
-LENGTH                          days of a changeover, 1 to 60 (30 where it is left out)
-READ                            bytes a read, 1 to 65536 (65536 where it is left out)
-
-A call answers 'ok' or 'refused N: why'. 'receive' lists the replies, one a line ('K 1001'), and writes them to REPLIES.
-",
-    );
+// The answer line of a call.
+pub fn answer(refusal: u32) -> Status {
+    if refusal == 0 {
+        let is_written = out(b"ok\n");
+        return status::served_if(is_said(
+            is_written,
+            b"the call was served, and 'ok' can't be written: ",
+        ));
+    }
+    let is_written = refused(refusal) && reason(refusal);
+    status::refused_if(is_said(
+        is_written,
+        b"the call was refused, and the answer can't be written: ",
+    ))
 }

@@ -208,7 +208,7 @@ fn listed(s: &[u8]) -> Number
 // ---- holidays
 
 // A line without one CR at its end.
-fn without_cr(line: &[u8]) -> &[u8]
+pub fn without_cr(line: &[u8]) -> &[u8]
     ensures { λ r. ⌜ now r ≡ withoutCr (now (line .entry)) ⌝ }
 {
     if line.len() == 0 {

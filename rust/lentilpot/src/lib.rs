@@ -45,18 +45,22 @@
 #![deny(unsafe_code)]
 #![warn(missing_docs)]
 
+mod constants;
 #[allow(unsafe_code)]
 pub mod sys;
 
+pub use constants::{at, code, refused};
 use std::fmt;
 use std::io::{self, Read};
 
+/// The version of these functions and constants: LP_VERSION of the C header.
+pub const VERSION: &str = "1.0";
 /// The bytes of a table.
 pub const TABLE_SIZE: usize = 49_152;
 /// The longest reply, and the least room that a call asks for one.
 pub const REPLY_ROOM: usize = 317;
 
-/// Why a call was refused: document 01's number, 1 to 12. The call changed nothing and took nothing.
+/// Why a call was refused: document 01's number, 1 to 12 ([`refused`]). The call changed nothing and took nothing.
 #[derive(Clone, Copy, PartialEq, Eq, Debug)]
 pub struct Refusal(u32);
 
@@ -69,18 +73,18 @@ impl Refusal {
     /// The number in a few words.
     pub fn words(self) -> &'static str {
         match self.0 {
-            1 => "the room for a reply is too small",
-            2 => "no table is written as these bytes",
-            3 => "the session is not open, or a number in it is out of range",
-            4 => "a date or time isn't real, or the day is before the table's",
-            5 => "the table has 32 customers already",
-            6 => "a customer with this identity and qualifier is there already",
-            7 => "there is no customer with this identity and qualifier",
-            8 => "the parity of a key part is even",
-            9 => "the check value differs",
-            10 => "the new transport generation isn't the next",
-            11 => "an argument is outside its limits",
-            12 => "the changeover from the previous key is not past",
+            refused::REPLY_ROOM => "the room for a reply is too small",
+            refused::NO_TABLE => "no table is written as these bytes",
+            refused::SESSION => "the session is not open, or a number in it is out of range",
+            refused::DATE_OR_TIME => "a date or time isn't real, or the day is before the table's",
+            refused::TABLE_FULL => "the table has 32 customers already",
+            refused::CUSTOMER_IS_THERE => "a customer with this identity and qualifier is there already",
+            refused::NO_CUSTOMER => "there is no customer with this identity and qualifier",
+            refused::PARITY => "the parity of a key part is even",
+            refused::CHECK_VALUE => "the check value differs",
+            refused::GENERATION => "the new transport generation isn't the next",
+            refused::ARGUMENT => "an argument is outside its limits",
+            refused::CHANGEOVER => "the changeover from the previous key is not past",
             _ => "no refusal has this number",
         }
     }
@@ -182,7 +186,7 @@ pub struct Opening {
     pub clock: u64,
 }
 
-/// A reply to the customer: an ESI of 237 characters or a PTE of 317.
+/// A reply to the customer: an ESI of 237 characters or a PTE of 317; [`at`] has where its fields stand.
 #[derive(Clone, Copy)]
 pub struct Reply {
     room: [u8; REPLY_ROOM],
@@ -195,14 +199,14 @@ impl Reply {
         &self.room[..self.length]
     }
 
-    /// The code, 1001 to 1037.
+    /// The code, 1001 to 1037: [`code`].
     pub fn code(&self) -> u16 {
-        self.room[12..16].iter().fold(0, |n, &b| 10 * n + u16::from(b.wrapping_sub(b'0') % 10))
+        self.room[at::CODE].iter().fold(0, |n, &b| 10 * n + u16::from(b.wrapping_sub(b'0') % 10))
     }
 
     /// Whether the message or batch is accepted: K, and not E.
     pub fn is_accepted(&self) -> bool {
-        self.room[11] == b'K'
+        self.room[at::VERDICT] == *b"K"
     }
 }
 

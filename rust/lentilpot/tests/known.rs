@@ -1,7 +1,7 @@
 //! Every function called with known answers, `known.txt`, which `known.c` has to print through the C header too. They are
 //! the answers of the independent model (rust/model); the whole reply below is printed in document 01.
 use lentilpot::sys::*;
-use lentilpot::{padded, who, Customer, Opening, Refusal, Session, Settings, Table, TransportKey};
+use lentilpot::{at, code, padded, refused, who, Customer, Opening, Refusal, Session, Settings, Table, TransportKey};
 use std::fmt::Write;
 
 const KNOWN: &str = include_str!("known.txt");
@@ -175,6 +175,31 @@ fn the_one_whole_reply() {
     assert_eq!(replies.len(), 1);
     assert_eq!(replies[0].as_bytes(), whole);
     assert_eq!((replies[0].code(), replies[0].is_accepted(), replies[0].to_string()), (1010, false, "E 1010".into()));
+}
+
+/// Where the fields stand, in both kinds of reply; tests/box.c looks at each of them through the header's numbers.
+#[test]
+fn the_fields_of_a_reply() {
+    assert_eq!(concat!(env!("CARGO_PKG_VERSION_MAJOR"), ".", env!("CARGO_PKG_VERSION_MINOR")), lentilpot::VERSION);
+    let mut replies = Vec::new();
+    let each = |_: &Table, r: &lentilpot::Reply| {
+        replies.push(*r);
+        Ok(())
+    };
+    bank().receive(&OPENING, &[ESI.as_bytes(), b">>ESI"].concat()[..], each).unwrap();
+    let (esi, pte) = (replies[0].as_bytes(), replies[1].as_bytes());
+    assert_eq!((esi.len(), pte.len()), (at::NOTICE.end, at::RECEIPT.end));
+    assert_eq!((&esi[at::KIND], &pte[at::KIND]), (&b">>ESI"[..], &b">>PTE"[..]));
+    assert_eq!((&esi[at::VERDICT], &pte[at::VERDICT]), (&b"K"[..], &b"E"[..]));
+    assert_eq!((&esi[at::CODE], &pte[at::CODE]), (&b"1001"[..], &b"1023"[..]));
+    assert_eq!((replies[0].code(), replies[1].code()), (code::ACCEPTED, code::SUO_MISSING));
+    assert_eq!((&esi[at::RECEIVER], &esi[at::STAMP]), (&who("99910000011111111", "")[..], &b"941015073000001"[..]));
+    assert_eq!((&esi[at::KEY_FLAG], &esi[at::NEW_KEY]), (&b"0"[..], &padded("", 16)[..]));
+    assert!(esi[at::NOTICE].starts_with(b"09:15:00 HYV\xC4KSYTTY ") && esi[at::TEXT].starts_with(b"HYV"));
+    let last = replies[2].as_bytes();
+    assert_eq!(replies[2].code(), code::FIELD_VALUE);
+    assert!(last[at::NAME_1011..].starts_with(b"SANOMATUNNUS "));
+    assert_eq!(number(Table::new().open(&OPENING)), refused::NO_TABLE);
 }
 
 /// The safe calls, their refusals, and a session kept as bytes.

@@ -1,6 +1,6 @@
 -- The name without its last blanks is a part of it.
-use native.Mathlib.Omega.{arith}
 use Prim.Native.Nat.{_-_}
+use native.Mathlib.Omega.{arith}
 use mathlib.Core.Path.{sym}
 use lib.Seq.{length-take-le}
 use borrow.Author.Needs.{needs}
@@ -31,6 +31,9 @@ out-requires-3 c κs = search needs
 returns : tie.Need-returns
 returns c = search needs
 
+returns-2 : tie.Need-returns-2
+returns-2 c = search needs
+
 pub name-spec : {M : Type 1} → statement M
 name-spec =
     tie.close
@@ -42,4 +45,5 @@ name-spec =
     out-requires-2
     slice-aggregate-out-3
     out-requires-3
-    returns)
+    returns
+    returns-2)

@@ -1,6 +1,6 @@
 -- The identity is the first part of the field.
-use native.Mathlib.Omega.{arith}
 use Prim.Native.Nat.{_-_}
+use native.Mathlib.Omega.{arith}
 use mathlib.Core.Path.{sym}
 use lib.Seq.{length-take-le}
 use borrow.Author.Needs.{needs}
@@ -46,6 +46,9 @@ out-requires-3 c κs = search needs
 returns-2 : tie.Need-returns-2
 returns-2 c = search needs
 
+returns-3 : tie.Need-returns-3
+returns-3 c = search needs
+
 pub who-spec : {M : Type 1} → statement M
 who-spec =
     tie.close
@@ -62,4 +65,5 @@ who-spec =
     name-requires-2
     slice-aggregate-out-2
     out-requires-3
-    returns-2)
+    returns-2
+    returns-3)

@@ -1,20 +1,24 @@
 -- Nothing has to hold from turn to turn; the turns left fall.
-use native.Mathlib.Omega.{arith}
 use Prim.Native.Nat.{_-_}
+use borrow.Author.Needs.{needs}
+use native.Mathlib.Omega.{arith}
 use Rattle.folder.proofs.replies.list.Statement.{statement}
 use Rattle.folder.proofs.replies.list.Tie as tie
 
 abbrev Inv-loop : tie.InvT-loop
-Inv-loop fd replies turns₀ turns = Unit {0}
+Inv-loop fd replies is-shown l₀ turns₀ l turns = Unit {0}
 
 abbrev μ-loop : tie.MeasureT-loop
-μ-loop fd replies turns₀ turns = turns
+μ-loop fd replies is-shown l₀ turns₀ l turns = turns
 
 loop-holds : tie.Need-loop-holds Inv-loop μ-loop
 loop-holds c = tt
 
-is-listed-requires : tie.Need-is-listed-requires Inv-loop μ-loop
-is-listed-requires c κs = tt
+listed-one-requires : tie.Need-listed-one-requires Inv-loop μ-loop
+listed-one-requires c κs = search needs
+
+returns : tie.Need-returns Inv-loop μ-loop
+returns c = search needs
 
 sub-turns : tie.Need-sub-turns Inv-loop μ-loop
 sub-turns c = omega arith
@@ -25,11 +29,8 @@ loop-less c = omega arith
 loop-again : tie.Need-loop-again Inv-loop μ-loop
 loop-again c = tt
 
-returns : tie.Need-returns Inv-loop μ-loop
-returns c = tt
-
 returns-2 : tie.Need-returns-2 Inv-loop μ-loop
-returns-2 c = tt
+returns-2 c = search needs
 
 pub list-spec : {M : Type 1} → statement M
 list-spec =
@@ -38,9 +39,9 @@ list-spec =
     Inv-loop
     μ-loop
     loop-holds
-    is-listed-requires
+    listed-one-requires
+    returns
     sub-turns
     loop-less
     loop-again
-    returns
     returns-2)

@@ -1,0 +1,242 @@
+// The command receive. The order of writes: the replies beside their name, flushed; the table; the replies' name; then the listing. The input is
+// read in parts and the replies are written as they come, so memory does not grow with the file.
+mod feeding;
+mod listing;
+
+use folder::files;
+use folder::lock;
+use folder::names;
+use folder::replies;
+use folder::run::Run;
+use terminal::asked;
+use terminal::options;
+use terminal::say;
+use terminal::status::Status;
+
+// How a run ended: with a status that was told, or with the replies to list (and, where they are asked for, the explanations).
+struct Done {
+    status: Status,
+    is_saved: bool,
+    replies: i32,
+    explanations: i32,
+}
+
+fn ended(status: Status) -> Done {
+    Done {
+        status,
+        is_saved: false,
+        replies: -1,
+        explanations: -1,
+    }
+}
+
+// ---- words
+
+pub fn receive() -> Status {
+    if !asked::are_as_many(5, 9, 10) {
+        return Status::Trouble;
+    }
+    if !options::are_taken(true, true) {
+        return Status::Trouble;
+    }
+    let mut table = io::buffer();
+    let n = names::of(2, b"TABLE", &mut table);
+    if n == 0 {
+        return Status::Trouble;
+    }
+    receive_words(&table[..n])
+}
+
+fn receive_words(table: &[u8]) -> Status {
+    let words::Number::Is(day) = asked::date(3) else {
+        return Status::Trouble;
+    };
+    let words::Number::Is(time) = asked::digits(4, 6, 6, b"TIME", b"six digits hhmmss") else {
+        return Status::Trouble;
+    };
+    let words::Number::Is(kind) = asked::digits(5, 1, 9, b"TYPE", b"a data type, 1 to 16") else {
+        return Status::Trouble;
+    };
+    let words::Block::Of(clock) = asked::key(6, b"CLOCK") else {
+        return Status::Trouble;
+    };
+    let words::Number::Is(size) = asked::read_size(9) else {
+        return Status::Trouble;
+    };
+    let today = calendar::Date { yymmdd: day };
+    let o = answers::Opening {
+        today,
+        time,
+        kind,
+        clock,
+    };
+    receive_into(table, o, size as usize)
+}
+
+// The names of the file and of the replies.
+fn receive_into(table: &[u8], o: answers::Opening, size: usize) -> Status {
+    let mut file = io::buffer();
+    let n = names::of_input(7, &mut file);
+    if n == 0 {
+        return Status::Trouble;
+    }
+    let mut replies = io::buffer();
+    let m = names::of(8, b"REPLIES", &mut replies);
+    if m == 0 {
+        return Status::Trouble;
+    }
+    receive_file(table, &file[..n], &replies[..m], o, size)
+}
+
+// ---- files
+
+fn is_input(file: &[u8]) -> bool {
+    text::same_bytes(file, b"-")
+}
+
+// The file is opened before the table is taken: the opening of a pipe may wait.
+fn receive_file(
+    table: &[u8],
+    file: &[u8],
+    replies: &[u8],
+    o: answers::Opening,
+    size: usize,
+) -> Status {
+    if is_input(file) {
+        return receive_open(table, libc::STDIN_FILENO, file, replies, o, size);
+    }
+    let input = files::open_told(b"can't open the file to receive", file);
+    if input < 0 {
+        return Status::Trouble;
+    }
+    let status = receive_open(table, input, file, replies, o, size);
+    libc::close(input);
+    status
+}
+
+fn receive_open(
+    table: &[u8],
+    input: i32,
+    file: &[u8],
+    replies: &[u8],
+    o: answers::Opening,
+    size: usize,
+) -> Status {
+    let r = lock::take(table);
+    if r.process == 0 {
+        return Status::Trouble;
+    }
+    let done = under_lock(table, input, file, replies, r, o, size);
+    lock::release(table);
+    if done.is_saved {
+        let today = o.today;
+        return listing::list(done.replies, done.explanations, replies, file, today);
+    }
+    done.status
+}
+
+// Loads the table and opens the file.
+fn under_lock(
+    table: &[u8],
+    input: i32,
+    file: &[u8],
+    replies: &[u8],
+    r: Run,
+    o: answers::Opening,
+    size: usize,
+) -> Done {
+    let mut t = [0u8; 49152];
+    if !files::load(table, &mut t) {
+        return ended(Status::Trouble);
+    }
+    if files::is_same(cli_files::of_open(input), cli_files::of_name(table)) {
+        say::expected(b"FILE", b"another file than TABLE");
+        return ended(Status::Trouble);
+    }
+    let today = o.today;
+    if !cli_days::is_meant(&t, today) {
+        return ended(Status::Trouble);
+    }
+    let a = front::open(&mut t, o);
+    if a.refusal != 0 {
+        return ended(cli_days::answer(&t, today, o.time, a.refusal));
+    }
+    let s = a.session;
+    make_table(table, input, file, replies, r, &mut t, s, size)
+}
+
+// Makes TABLE.new: from here on the names that this run may not give to its replies are taken.
+fn make_table(
+    table: &[u8],
+    input: i32,
+    file: &[u8],
+    replies: &[u8],
+    r: Run,
+    t: &mut [u8],
+    s: session::Session,
+    size: usize,
+) -> Done {
+    let kept = files::begin(table);
+    if kept < 0 {
+        return ended(Status::Trouble);
+    }
+    if !replies::is_free(replies) {
+        files::give_up(table, kept);
+        return ended(Status::Trouble);
+    }
+    let out = replies::begin(replies, table, r);
+    if out < 0 {
+        replies::undo(table, kept);
+        return ended(Status::Trouble);
+    }
+    let explanations = listing::begin(replies);
+    let is_written = is_filled(input, file, out, explanations, replies, t, s, size);
+    libc::close(out);
+    if !is_written {
+        replies::remove(replies);
+        replies::undo(table, kept);
+        return ended(Status::Trouble);
+    }
+    let listed = replies::finish(table, kept, replies, r, t);
+    Done {
+        status: Status::Trouble,
+        is_saved: 0 <= listed,
+        replies: listed,
+        explanations,
+    }
+}
+
+// Every reply written and flushed.
+fn is_filled(
+    input: i32,
+    file: &[u8],
+    out: i32,
+    explanations: i32,
+    replies: &[u8],
+    t: &mut [u8],
+    s: session::Session,
+    size: usize,
+) -> bool {
+    if explanations < -1 {
+        return false;
+    }
+    if !feeding::is_received(input, file, out, explanations, replies, t, s, size) {
+        return false;
+    }
+    if libc::fsync(out) != 0 {
+        say::trouble_beside(
+            b"nothing was changed: can't flush the replies",
+            replies,
+            b".new",
+        );
+        return false;
+    }
+    if !files::flush_folder(replies) {
+        say::trouble(
+            b"nothing was changed: can't flush the folder of the replies",
+            replies,
+        );
+        return false;
+    }
+    true
+}

@@ -1,0 +1,177 @@
+#!/bin/bash
+# The one list of commands, docs/commands, and what is made from it: the help, the man page and the completion are what scripts/pages makes; the man page
+# gives no warning; the completion completes; README.md lists the same commands; the program prints the help that was made.
+# usage: bash tests/pages.sh     (PROGRAM: the program, target/program/lentilpot where it isn't set)
+set -eu
+root=$(cd "$(dirname "$0")/.." && pwd -P)
+program=${PROGRAM:-$root/target/program/lentilpot}
+. "$root/samples/bank.sh"
+work=$(mktemp -d)
+trap 'rm -rf "$work"' EXIT
+cd "$work"
+help=$root/crates/terminal/src/help.rt
+page=$root/docs/lentilpot.1
+fail() {
+    echo "tests/pages: $*" >&2
+    exit 1
+}
+
+# ---- what is made
+
+sh "$root/scripts/pages" made
+for file in crates/terminal/src/help.rt docs/lentilpot.1 docs/lentilpot.bash; do
+    cmp -s "made/$file" "$root/$file" || {
+        diff "$root/$file" "made/$file" >&2 || true
+        fail "$file isn't what scripts/pages makes from docs/commands: run 'sh scripts/pages'"
+    }
+done
+sed -n 's/^command //p' "$root/docs/commands" >commands
+names=$(sed 's/ .*//' commands)
+count=$(wc -l <commands)
+[ "$count" -ge 8 ] || fail "docs/commands: expected eight commands or more"
+
+# A list that isn't as it should be is refused, and nothing is made.
+refused() { # TEXT SED
+    rm -rf other
+    mkdir -p other/scripts other/docs
+    cp "$root/scripts/pages" other/scripts/
+    sed "$2" "$root/docs/commands" >other/docs/commands
+    cmp -s other/docs/commands "$root/docs/commands" && fail "the edit '$2' changes nothing"
+    if sh other/scripts/pages >out 2>err; then fail "scripts/pages took a list after '$2'"; fi
+    grep -qF -- "$1" err || { cat err >&2; fail "scripts/pages after '$2': expected to be told '$1'"; }
+    [ ! -e other/docs/lentilpot.1 ] && [ ! -e other/crates ] || fail "scripts/pages made something after '$2'"
+}
+refused "the list has no word TABEL" 's/^command show TABLE/command show TABEL/'
+refused "word READ: no command has it" 's/^\(command receive.*\) \[READ\]/\1/'
+refused "word CLOCK: expected repeat" '/^word CLOCK/,/^$/{/^    repeat/,/^    fill/{/fill/!d;}}'
+refused "the list has no option --late" 's/\[--later\]/[--late]/'
+refused "word has no forms" 's/^    form /    forms/'
+refused "longer than 110" 's/^    says    adds a customer/& aaaaaaaaaaaaaaaaaaaaaaaaaaaaaaaaaaaaaaaaaaaaaaaaaaaaaaaaaaaaaaaaaaaaaaaaaaaaa/'
+
+# What a function of help.rt says: its n-th text.
+text_of() { # FUNCTION N
+    LC_ALL=C awk -v wanted="$1" -v n="$2" '
+    /^pub fn / { at = $3; sub(/[(].*/, "", at); i = 0 }
+    {
+        k = 1
+        if (!open && at == wanted && (k = index($0, "b\"") + 2) > 2) { open = 1; i++ }
+        for (; open && k <= length($0); k++) {
+            c = substr($0, k, 1)
+            if (c == "\"") open = 0
+            else if (c == "\\" && substr($0, ++k, 1) == "n") c = "\n"
+            else if (c == "\\") c = substr($0, k, 1)
+            if (open && i == n) printf "%s", c
+        }
+        if (open && i == n) print ""
+    }' "$help"
+}
+# A text with one blank between its words.
+squeezed() { tr -s ' \n' ' ' <"$1"; }
+text_of whole 1 >whole
+i=0
+while read -r line; do
+    i=$((i + 1))
+    text_of of $i >"of.$i"
+    # Each command with its words: in the whole help, in its own, in the line that says what was expected, on the page and in README.md.
+    squeezed whole | grep -qF -- " $line " || fail "help.rt: the whole help has no '$line'"
+    squeezed "of.$i" | grep -qF -- "usage: lentilpot $line " || fail "help.rt: the help of command $i doesn't begin with '$line'"
+    [ "$(text_of tell_words $i)" = "$line" ] || fail "help.rt: tell_words $i isn't '$line'"
+    sed 's/\\f.//g; s/\\-/-/g' "$page" | grep -qxF -- "$line" || fail "docs/lentilpot.1 has no '$line'"
+    squeezed "$root/README.md" | grep -qF -- " lentilpot $line " || fail "README.md has no 'lentilpot $line'"
+done <commands
+[ "$(wc -l <whole)" -le 60 ] || fail "the whole help has more than 60 lines"
+[ -z "$(awk 'length > 110' whole)" ] || fail "a line of the whole help is longer than 110"
+
+# ---- the man page
+
+for heading in NAME SYNOPSIS DESCRIPTION COMMANDS WORDS OPTIONS "EXIT STATUS" FILES EXAMPLES "SEE ALSO"; do
+    grep -qx "\.SH $heading" "$page" || fail "docs/lentilpot.1 has no section $heading"
+done
+if command -v groff >/dev/null 2>&1; then
+    for device in ascii utf8; do
+        groff -man -ww -T$device "$page" >shown 2>warnings || fail "groff can't take docs/lentilpot.1"
+        [ ! -s warnings ] || { cat warnings >&2; fail "groff warns of docs/lentilpot.1"; }
+        [ -s shown ] || fail "groff shows nothing of docs/lentilpot.1"
+    done
+fi
+if command -v mandoc >/dev/null 2>&1; then
+    mandoc -Tlint -Wwarning "$page" >warnings 2>&1 || true
+    [ ! -s warnings ] || { cat warnings >&2; fail "mandoc warns of docs/lentilpot.1"; }
+fi
+
+# ---- the completion
+
+. "$root/docs/lentilpot.bash"
+by=$(complete -p lentilpot | sed 's/.*-F \([^ ]*\).*/\1/')
+mkdir files files/folder
+cd files
+touch table "two words"
+# What completes the last of the words; bash itself cuts a word at some marks, here at blanks alone.
+completes() { # EXPECTED WORDS..
+    expected=$1
+    shift
+    COMP_WORDS=("$@") COMP_LINE="$*" COMP_CWORD=$(($# - 1))
+    COMP_POINT=${#COMP_LINE}
+    $by || true
+    got=$(printf '%s\n' "${COMPREPLY[@]}" | LC_ALL=C sort | tr '\n' ' ')
+    [ "$got" = "$expected " ] || fail "completion of '$*': expected '$expected', got '$got'"
+}
+completes receive lentilpot r
+completes "$(printf '%s\n' $names | LC_ALL=C sort | tr '\n' ' ' | sed 's/ $//')" lentilpot ""
+completes "--help --version -h" lentilpot -
+completes "--explain --help --later" lentilpot receive --
+completes "--help --later" lentilpot add t 941017 --
+completes "--help" lentilpot show t --
+completes "110 120" lentilpot setup t B '""' S ""
+completes 120 lentilpot setup t B '""' S 12
+completes "no yes" lentilpot add t 941017 A '""' P1 P2 C 0 1 ""
+completes yes lentilpot add t 941017 A '""' P1 P2 C 0 1 no y
+completes yes lentilpot add --later t 941017 A '""' P1 P2 C 0 1 no y
+completes "" lentilpot receive t 941017 ""
+completes table lentilpot receive ta
+completes "folder table two words" lentilpot receive t 941017 091500 1 C ""
+completes "two words" lentilpot setup t B '""' S 110 K V tw
+completes table lentilpot explain ta
+completes explain lentilpot help e
+completes @table lentilpot order t 941017 A '""' @ta
+completes "@two\\ words" lentilpot order t 941017 A '""' @tw
+completes "" lentilpot order t 941017 A '""' ta
+completes "" lentilpot order -- --later
+# A word that bash has cut at its mark.
+COMP_WORDS=(lentilpot order t 941017 A : B '""' @ ta) COMP_LINE='lentilpot order t 941017 A:B "" @ta' COMP_CWORD=9 COMP_POINT=37
+$by || true
+[ "${COMPREPLY[*]}" = @table ] || fail "completion of a word that was cut: got '${COMPREPLY[*]}'"
+cd ..
+echo "pages: help, man page and completion of $count commands are what the list says"
+
+# ---- the program
+
+[ -x "$program" ] || fail "$program: expected the program"
+# A call must print the text, with status 0 and nothing on standard error.
+prints() { # FILE WORDS..
+    file=$1
+    shift
+    status=0
+    lentilpot "$@" >out 2>err </dev/null || status=$?
+    [ $status -eq 0 ] && [ ! -s err ] && cmp -s "$file" out || {
+        diff "$file" out >&2 || true
+        cat err >&2
+        fail "lentilpot $*: expected what help.rt holds, and status 0 (it was $status)"
+    }
+}
+prints whole help
+prints whole --help
+prints whole -h
+i=0
+for name in $names; do
+    i=$((i + 1))
+    prints "of.$i" "$name" --help
+    prints "of.$i" help "$name"
+done
+text_of version 1 >version
+[ "$(cat version)" = "lentilpot $(sed -n 's/^version //p' "$root/docs/commands")" ] || fail "help.rt: version isn't that of docs/commands"
+prints version --version
+# The library's version is the program's, where it tells one.
+library=$(sed -n 's/^#define LP_VERSION  *"\{0,1\}\([0-9][0-9.]*\)"\{0,1\}.*/\1/p' "$root/include/lentilpot.h")
+[ -z "$library" ] || [ "lentilpot $library" = "$(cat version)" ] || fail "include/lentilpot.h: LP_VERSION is $library, and the program says '$(cat version)'"
+echo "pages: the program prints the help of $count commands as it was made"
