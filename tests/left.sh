@@ -80,6 +80,15 @@ lock "$work/r
 tell "saved the table; its replies stand" new
 clean
 cmp -s r whole || fail "the replies are lost"
+state="the same, cut off just after the name was taken"
+mv r r.new
+: >r
+under AAAAAAAAAAAAAAAA
+lock "$work/r
+"
+tell "saved the table; its replies stand" new
+clean
+cmp -s r whole || fail "the replies are lost"
 state="the same, and another file has the name by now"
 mv r r.new
 echo other >r
@@ -117,6 +126,28 @@ lock "$work/r
 tell "saved the table; its replies are in '$work/r'" new
 clean
 cmp -s r whole || fail "the replies are lost"
+state="the same, and someone took the replies away"
+mv r elsewhere
+lock "$work/r
+"
+tell "saved the table; its replies are no longer in '$work/r'" new
+clean
+mv elsewhere r
+state="the mend of a table that was not changed, cut off at its last step"
+mv r elsewhere
+cp old t
+: >t.new
+head -c 300 whole >r.new
+under AAAAAAAAAAAAAAAA
+lock "$work/r
+"
+receive t "$file" r >out 2>told || true
+first=$(sed -n 's/.*To mend: //p' told | sed 's/ && rm [^&]*$//')
+(cd / && eval "$first") || fail "the mend failed"
+tell "left by a run that did not change the table" old
+clean
+cp new t
+mv elsewhere r
 state="lock gone, table saved, listing cut off"
 receive new "$file" r >out 2>told && fail "the replies were replaced"
 cmp -s r whole && grep -qF "replies never replace one" told || fail "the replies are lost"
@@ -126,12 +157,21 @@ state="a new table without a lock"
 rm r
 cp old t
 : >t.new
-tell "t.new: left by a run that was cut off before it changed the table" old
+tell "t.new: left by a run that did not change the table, and whose lock was removed" old
 clean
 state="an empty lock"
 : >t.lock
 tell "if no lentilpot runs on it, that run did nothing. To mend: rm '$work/t.lock'" old
 clean
+state="a lock that can't be read"
+if [ "$(id -u)" -eq 0 ] && command -v setpriv >/dev/null 2>&1; then
+    lock ""
+    chmod 600 t.lock
+    chmod 755 .
+    setpriv --reuid=65534 --regid=65534 --clear-groups sh "$root/scripts/runbin" "$program" order t 941017 99910000011111111 "" 0000000000000001 >out 2>told && fail "a lock was overrun"
+    grep -qF "can't read the lock" told || grep -qF "Permission denied" told || fail "expected to be told that the lock can't be read"
+    rm t.lock
+fi
 state="an empty file of who makes the replies"
 : >r.run
 tell "if no lentilpot runs, that run did nothing. To mend: rm '$work/r.run'" old

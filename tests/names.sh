@@ -45,11 +45,14 @@ for name in link hard t; do
     told "$text" show $name
     told "$text" order $name 941017 99910000011111111 "" 0000000000000001
 done
-told "a link" setup link BANK "" SOFT 110 0123456789ABCDEF 0123456789ABCDEF
+for name in link t empty0; do
+    [ -e $name ] || : >$name
+    told "there is a file already: expected the name of a new table" setup $name BANK "" SOFT 110 0123456789ABCDEF 0123456789ABCDEF
+done
 rm hard
 files "not a regular file" pipe good r
 files "not a regular file" /dev/null good r
-told "not a regular file" setup /dev/null BANK "" SOFT 110 0123456789ABCDEF 0123456789ABCDEF
+told "there is a file already: expected the name of a new table" setup /dev/null BANK "" SOFT 110 0123456789ABCDEF 0123456789ABCDEF
 files "FILE: expected another file than TABLE" t ./t r
 ln -s t other
 files "FILE: expected another file than TABLE" t other r
@@ -64,6 +67,21 @@ done
 cp good r.new
 files "r.new: there is a file already, which no run says is its own" t good r
 rm r.new
+# what has the names of our own files and isn't ours is never told to be removed
+cp old r.run
+files "r.run: there is a file already, which this program did not write" t good r
+cp old x.run
+files "x.run: there is a file already, which this program did not write" x.run good x
+rm r.run x.run
+cp old t.new
+files "t.new: there is a file already, which no run says is its own" t good r
+rm t.new
+mkfifo t.lock
+files "a lock that this program did not write" t good r
+rm t.lock
+mkdir r.run
+files "r.run: there is a file already, which this program did not write" t good r
+rmdir r.run
 files "can't make the replies" t good none/r
 [ ! -e t.lock ] && [ ! -e t.new ] || fail "a lock was left"
 
@@ -105,8 +123,48 @@ cmp -s b/t old || fail "the other table changed"
 receive a/t good r >out 2>told || fail "the name of the replies can't be used after the mend"
 rm r
 
+# ---- what a person does while a run is under way: the run sees that a file isn't its own any more, and changes nothing
+meddled() { # WHAT TEXT
+    rm -rf m
+    mkdir m
+    cp old m/t
+    mkfifo m/file
+    (umask 000 && receive m/t m/file m/r >m/listing 2>m/told) &
+    run=$!
+    exec 9>m/file
+    turns=0
+    while [ ! -e m/r.new ] && [ $turns -lt 200 ]; do turns=$((turns + 1)); sleep 0.05; done
+    [ "$(stat -c %a m/t.new)" = 600 ] || fail "the new table, which is to hold keys, has mode $(stat -c %a m/t.new)"
+    eval "$1"
+    cat good >&9
+    exec 9>&-
+    got=0
+    wait $run || got=$?
+    cp m/told told
+    cp m/listing out
+    [ $got -eq 2 ] && [ ! -s m/listing ] || fail "$1: status $got, expected 2 and no listing"
+    [ "$(wc -l <m/told)" -eq 1 ] && grep -qF -- "$2" m/told || fail "$1: expected one line with '$2'"
+    [ ! -e m/r ] || [ "$(cat m/r)" = other ] || fail "$1: there are replies"
+    count=$((count + 1))
+}
+meddled 'rm m/t.lock' "nothing was changed: the lock was removed while the run was under way"
+cmp -s m/t old && [ ! -e m/t.new ] && [ ! -e m/r.new ] && [ ! -e m/r.run ] || fail "something changed or is left"
+meddled 'echo other >m/t.lock' "nothing was changed: the lock was removed while the run was under way"
+cmp -s m/t old && [ "$(cat m/t.lock)" = other ] || fail "another's lock was removed"
+meddled 'rm m/t.new; echo other >m/t.new' "nothing was changed: another file took the table's name, or that of the new one"
+cmp -s m/t old && [ "$(cat m/t.new)" = other ] || fail "another's file took the table's name"
+meddled 'mv m/t m/t2; cp old m/t' "nothing was changed: another file took the table's name, or that of the new one"
+cmp -s m/t old && cmp -s m/t2 old || fail "a table that was put in place was replaced"
+meddled 'rm m/r.new; echo other >m/r.new' "nothing was changed: another file took the name of the replies"
+cmp -s m/t old && [ "$(cat m/r.new)" = other ] || fail "another's file was taken for the replies"
+meddled 'echo other >m/r' "holds the replies, which could not be given their name; the table was saved, and another file has their name by now"
+[ "$(cat m/r)" = other ] || fail "the replies replaced a file"
+command=$(sed -n 's/.*To mend: //p' told)
+(cd / && eval "$command") || fail "the mend failed"
+[ ! -e m/r.new ] && [ ! -e m/r.run ] && [ -n "$(find m -name 'r.????????????????')" ] || fail "the mend lost the replies"
+
 # ---- names that a shell would read otherwise; a mend is right from any folder
-for name in "it's" "-n" 'a b' '$(touch x)' '"; touch x; "' '*' '--' "back\\slash" 'ä'; do
+for name in "it's" "-n" "-h" 'a b' '$(touch x)' '"; touch x; "' '*' '--' "back\\slash" 'ä'; do
     mkdir -p "./odd/$name"
     (
         cd "./odd/$name"

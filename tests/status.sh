@@ -81,6 +81,27 @@ if [ -c /dev/full ]; then
     full "the replies can't be shown" explain r1
 fi
 
+# a reader that left: told, and nothing is left locked
+for words in "show t" "order t 941018 NOBODY '' $C" "receive t 941018 091500 17 $C $good r7a" "receive t 941018 091500 1 $C $good r7b"; do
+    mkfifo gone
+    sleep 5 <gone &
+    reader=$!
+    exec 8>gone
+    kill $reader
+    wait $reader 2>/dev/null || true
+    got=0
+    eval "lentilpot $words" >&8 2>told || got=$?
+    exec 8>&-
+    rm gone
+    : >out
+    [ $got -eq 2 ] && grep -qF "Broken pipe" told && [ ! -e t.lock ] && [ ! -e t.new ] || fail "lentilpot $words to a reader that left: status $got"
+    count=$((count + 1))
+done
+[ -s r7b ] || fail "the replies are lost where nobody reads the listing"
+# a file that may not grow
+(ulimit -f 1 && lentilpot receive t 941018 091500 1 $C "$good" r7c >out 2>told) && fail "a limit on a file's size was overrun"
+grep -qF "File too large" told && [ ! -e t.lock ] && [ ! -e t.new ] && [ ! -e r7c.run ] || fail "expected to be told of the limit, and nothing left over"
+
 # ---- refusal 4 says which half and the days
 cp t before
 ends 1 "refused 4: 941301 isn't a real date; the table's day is 941018" '' order t 941301 $ID "" $C
@@ -114,7 +135,7 @@ ends 0 ok '' add n 941014 $ID "" - - 028E4C 0 1 yes no <parts
 ends 2 '' "PART2: expected 16 hex digits, 0-9 and A-F, as the next line of standard input" add n 941014 $ID B - - 028E4C 0 1 yes no <k
 ends 2 '' "K: expected 16 hex digits, 0-9 and A-F, as the first line of its file" setup m B "" S 110 @"$good" $K
 ends 2 '' "missing: No such file" setup m B "" S 110 $K @missing
-lentilpot show n $ID "" | grep -qF 'transport  generation 0 check value 028E4C' || fail "keys from standard input"
+ends 0 'transport  generation 0 check value 028E4C' '' show n $ID ""
 
 # ---- show
 ends 0 'stamps     3 of 64 held' '' show t $ID ""

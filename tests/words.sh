@@ -92,7 +92,7 @@ bad "short: not the size" key short 941017 $ID "" $P1 $P2 028E4C 1
 bad "long: not the size" receive long 941017 091500 1 $K good r
 bad "none/t.lock: No such file" order none/t 941017 $ID "" $K
 bad "t: there is a file already" setup t B "" S 110 $K $K
-bad "folder: not a regular file" setup folder B "" S 110 $K $K
+bad "folder: there is a file already" setup folder B "" S 110 $K $K
 bad "missing: No such file" setup n B "" S 110 $K $K missing
 bad "folder: Is a directory" setup n B "" S 110 $K $K folder
 bad "badlines: line 2 isn't a date" setup n B "" S 110 $K $K badlines

@@ -73,8 +73,7 @@ fn with_day(is_written: bool, day: Date) -> bool {
 }
 
 // Which half of refusal 4 holds, and the table's day.
-fn answer_day(t: &[u8], today: Date, time: u32) -> bool {
-    let day = table::day(t);
+fn answer_day(day: Date, today: Date, time: u32) -> bool {
     if !today.is_real() {
         let is_written = unreal(today.yymmdd, b" isn't a real date; the table's day is ");
         return with_day(is_written, day);
@@ -87,12 +86,12 @@ fn answer_day(t: &[u8], today: Date, time: u32) -> bool {
     with_day(is_written, day)
 }
 
-// The answer line of a call on a table that it left as it was if it was refused.
-pub fn answer(t: &[u8], today: Date, time: u32, refusal: u32) -> Status {
+// The answer line of a call on a table of that day.
+pub fn answer(day: Date, today: Date, time: u32, refusal: u32) -> Status {
     if refusal != 4 {
         return say::answer(refusal);
     }
-    status::refused_if(is_said(answer_day(t, today, time)))
+    status::refused_if(is_said(answer_day(day, today, time)))
 }
 
 // The first of the holidays that isn't a real date.

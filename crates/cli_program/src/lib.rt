@@ -50,16 +50,10 @@ fn command_at(i: usize) -> u32 {
     help::command_of(&word[..n])
 }
 
-fn is_short_help(i: usize) -> bool {
-    let mut word = io::buffer();
-    let n = options::word(i, &mut word);
-    text::same_bytes(&word[..n], b"-h")
-}
-
 // A command, or what was asked in place of one.
 fn of_words() -> Status {
     let command = command_at(1);
-    if options::is_given(b"--help") || is_short_help(2) {
+    if options::is_given(b"--help") || options::is_given(b"-h") {
         if command == 0 {
             return shown(help::whole());
         }
@@ -67,9 +61,6 @@ fn of_words() -> Status {
     }
     if command != 0 {
         return served(command);
-    }
-    if is_short_help(1) {
-        return shown(help::whole());
     }
     if options::is_given(b"--version") {
         return shown(help::version());

@@ -3,6 +3,7 @@
 mod feeding;
 mod listing;
 
+use cli_files::Seen;
 use folder::files;
 use folder::lock;
 use folder::names;
@@ -13,17 +14,20 @@ use terminal::options;
 use terminal::say;
 use terminal::status::Status;
 
-// How a run ended: with a status that was told, or with the replies to list (and, where they are asked for, the explanations).
+// How a run ended: with trouble that was told, with a refusal to answer on a table of that day, or with the replies to list (and, where they are asked
+// for, the explanations).
 struct Done {
-    status: Status,
+    refusal: u32,
+    day: calendar::Date,
     is_saved: bool,
     replies: i32,
     explanations: i32,
 }
 
-fn ended(status: Status) -> Done {
+fn trouble() -> Done {
     Done {
-        status,
+        refusal: 0,
+        day: calendar::Date { yymmdd: 0 },
         is_saved: false,
         replies: -1,
         explanations: -1,
@@ -127,12 +131,21 @@ fn receive_open(
         return Status::Trouble;
     }
     let done = under_lock(table, input, file, replies, r, o, size);
-    lock::release(table);
+    lock::release(table, r);
+    answered(done, replies, file, o)
+}
+
+// What is said once the table is free again, since a reader may be slow to take it.
+fn answered(done: Done, replies: &[u8], file: &[u8], o: answers::Opening) -> Status {
+    let today = o.today;
+    if done.refusal != 0 {
+        let day = done.day;
+        return cli_days::answer(day, today, o.time, done.refusal);
+    }
     if done.is_saved {
-        let today = o.today;
         return listing::list(done.replies, done.explanations, replies, file, today);
     }
-    done.status
+    Status::Trouble
 }
 
 // Loads the table and opens the file.
@@ -146,28 +159,36 @@ fn under_lock(
     size: usize,
 ) -> Done {
     let mut t = [0u8; 49152];
+    let seen = cli_files::of_name(table);
     if !files::load(table, &mut t) {
-        return ended(Status::Trouble);
+        return trouble();
     }
-    if files::is_same(cli_files::of_open(input), cli_files::of_name(table)) {
+    if files::is_same(cli_files::of_open(input), seen) {
         say::expected(b"FILE", b"another file than TABLE");
-        return ended(Status::Trouble);
+        return trouble();
     }
     let today = o.today;
     if !cli_days::is_meant(&t, today) {
-        return ended(Status::Trouble);
+        return trouble();
     }
     let a = front::open(&mut t, o);
     if a.refusal != 0 {
-        return ended(cli_days::answer(&t, today, o.time, a.refusal));
+        return Done {
+            refusal: a.refusal,
+            day: table::day(&t),
+            is_saved: false,
+            replies: -1,
+            explanations: -1,
+        };
     }
     let s = a.session;
-    make_table(table, input, file, replies, r, &mut t, s, size)
+    make_table(table, seen, input, file, replies, r, &mut t, s, size)
 }
 
 // Makes TABLE.new: from here on the names that this run may not give to its replies are taken.
 fn make_table(
     table: &[u8],
+    seen: Seen,
     input: i32,
     file: &[u8],
     replies: &[u8],
@@ -178,29 +199,48 @@ fn make_table(
 ) -> Done {
     let kept = files::begin(table);
     if kept < 0 {
-        return ended(Status::Trouble);
+        return trouble();
     }
     if !replies::is_free(replies) {
         files::give_up(table, kept);
-        return ended(Status::Trouble);
+        return trouble();
     }
     let out = replies::begin(replies, table, r);
     if out < 0 {
-        replies::undo(table, kept);
-        return ended(Status::Trouble);
+        replies::undo(table, kept, r);
+        return trouble();
     }
+    make_replies(table, kept, seen, input, file, replies, out, r, t, s, size)
+}
+
+// Fills REPLIES.new, saves the table and gives the replies their name.
+fn make_replies(
+    table: &[u8],
+    kept: i32,
+    seen: Seen,
+    input: i32,
+    file: &[u8],
+    replies: &[u8],
+    out: i32,
+    r: Run,
+    t: &mut [u8],
+    s: session::Session,
+    size: usize,
+) -> Done {
     let explanations = listing::begin(replies);
-    let is_written = is_filled(input, file, out, explanations, replies, t, s, size);
-    libc::close(out);
-    if !is_written {
-        replies::remove(replies);
-        replies::undo(table, kept);
-        return ended(Status::Trouble);
+    if !is_filled(input, file, out, explanations, replies, t, s, size) {
+        replies::remove(replies, out, r);
+        replies::undo(table, kept, r);
+        return trouble();
     }
-    let listed = replies::finish(table, kept, replies, r, t);
+    // opened while the name is surely this run's, and listed once all is done
+    let listed = files::open_beside(replies, b".new");
+    let is_saved = replies::is_finished(table, kept, seen, replies, out, r, t);
+    libc::close(out);
     Done {
-        status: Status::Trouble,
-        is_saved: 0 <= listed,
+        refusal: 0,
+        day: calendar::Date { yymmdd: 0 },
+        is_saved,
         replies: listed,
         explanations,
     }

@@ -86,6 +86,40 @@ fn read_file(path: &[u8], room: &mut [u8]) -> usize
     n
 }
 
+// Whether a file beside a name can be opened to read; what is no regular file is not opened.
+pub fn is_readable(name: &[u8], ending: &[u8]) -> bool {
+    let mut path = io::buffer();
+    let n = beside(&mut path, name, ending);
+    let seen = cli_files::of_name(&path[..n]);
+    if !seen.found || !cli_files::is_regular(seen.mode) {
+        return true;
+    }
+    let fd = os::open_read(&path[..n]);
+    if fd < 0 {
+        return false;
+    }
+    libc::close(fd);
+    true
+}
+
+// Whether a file beside a name is a regular one that holds nothing.
+pub fn is_empty(name: &[u8], ending: &[u8]) -> bool {
+    let mut path = io::buffer();
+    let n = beside(&mut path, name, ending);
+    let seen = cli_files::of_name(&path[..n]);
+    if !seen.found || !cli_files::is_regular(seen.mode) {
+        return false;
+    }
+    let fd = os::open_read(&path[..n]);
+    if fd < 0 {
+        return false;
+    }
+    let mut first = [0u8; 1];
+    let got = libc::read(fd, &mut first);
+    libc::close(fd);
+    got == 0
+}
+
 // Whether two are the same file, whatever their names.
 pub fn is_same(a: Seen, b: Seen) -> bool {
     if !a.found || !b.found {
@@ -258,27 +292,17 @@ fn is_whole(table: &[u8], fd: i32, n: usize) -> bool {
     false
 }
 
-// Whether a table may be set up there: no file, or an empty one. A table that is there would lose its used stamps.
+// Whether a table may be set up there: nothing has the name. A table that is there would lose its used stamps, and an empty file may be a run's.
 pub fn is_free(table: &[u8]) -> bool {
     let seen = cli_files::of_name(table);
     if !seen.found {
         return is_missing(b"can't set up a table there", table);
     }
-    if !is_alone(table, seen) {
-        return false;
-    }
-    let fd = open_told(b"can't set up a table there", table);
-    if fd < 0 {
-        return false;
-    }
-    let got = read_over(fd, b"can't set up a table there", table);
-    if 0 < got {
-        tell(
-            table,
-            b"there is a file already: expected the name of a new table (an old one would lose its used stamps)\n",
-        );
-    }
-    got == 0
+    tell(
+        table,
+        b"there is a file already: expected the name of a new table (an old one would lose its used stamps)\n",
+    );
+    false
 }
 
 // Whether nothing was seen of a name because there is nothing.
@@ -290,11 +314,19 @@ pub fn is_missing(what: &[u8], name: &[u8]) -> bool {
     false
 }
 
-// Makes TABLE.new. It is to hold keys, so it is its owner's alone, or the table's owner's and open to those that the table is.
+// Makes TABLE.new. It is to hold keys, so it is its owner's alone from its first moment (the system makes only a file of a name of its own so, which
+// then takes the place of the one that took the name); later the table's owner's, and open to those that the table is.
 pub fn begin(table: &[u8]) -> i32 {
-    let fd = make(table, b".new");
-    if fd < 0 {
+    let taken = make(table, b".new");
+    if taken < 0 {
         tell_unmade(table);
+        return -1;
+    }
+    libc::close(taken);
+    let fd = private(table);
+    if fd < 0 {
+        trouble_new(b"can't keep the new table for its owner alone", table);
+        remove_new(table);
         return -1;
     }
     if !is_kept(table, fd) {
@@ -304,26 +336,53 @@ pub fn begin(table: &[u8]) -> i32 {
     fd
 }
 
+// A file for its owner alone, which takes the name TABLE.new.
+fn private(table: &[u8]) -> i32 {
+    let mut name = io::buffer();
+    let n = beside(&mut name, table, b".new.XXXXXX");
+    let mut path = io::buffer();
+    let m = beside(&mut path, table, b".new");
+    renamed(&mut name[..n], &path[..m])
+}
+
+fn renamed(name: &mut [u8], path: &[u8]) -> i32 {
+    let fd = os::create_temp(name);
+    if fd < 0 {
+        return -1;
+    }
+    if os::rename(name, path) != 0 {
+        libc::close(fd);
+        os::unlink(name);
+        return -1;
+    }
+    fd
+}
+
+// A file of that name without a lock: an empty one is of a run that was cut off, another may be anybody's.
 fn tell_unmade(table: &[u8]) {
-    if os::errno() == libc::EEXIST {
+    if os::errno() != libc::EEXIST {
+        trouble_new(b"can't make the new table", table);
+        return;
+    }
+    if !is_empty(table, b".new") {
         say::of_file(
             table,
             b".new",
-            b"left by a run that was cut off before it changed the table, and whose lock was removed. To mend: rm",
+            b"there is a file already, which no run says is its own; nothing was changed: move it away if it isn't another table's or run's\n",
         );
-        say::quoted(table, b".new");
-        say::end_line();
         return;
     }
-    trouble_new(b"can't make the new table", table);
+    say::of_file(
+        table,
+        b".new",
+        b"left by a run that did not change the table, and whose lock was removed; if no lentilpot runs on it: To mend: rm",
+    );
+    say::quoted(table, b".new");
+    say::end_line();
 }
 
-// Whether TABLE.new is kept from others and its name has reached the disk.
+// Whether TABLE.new's name has reached the disk; it has the table's owner and mode, where the system lets us.
 fn is_kept(table: &[u8], fd: i32) -> bool {
-    if libc::fchmod(fd, 0o600) != 0 {
-        trouble_new(b"can't keep the new table for its owner alone", table);
-        return false;
-    }
     let seen = cli_files::of_name(table);
     if seen.found {
         keep_as(fd, seen);
@@ -335,17 +394,26 @@ fn is_kept(table: &[u8], fd: i32) -> bool {
     true
 }
 
-// The table's owner and mode, where the system lets us; with another owner the mode would let in others than it did.
+// With another owner the mode would let in others than it did.
 fn keep_as(fd: i32, seen: Seen) {
     if libc::fchown(fd, seen.owner, seen.group) == 0 {
         libc::fchmod(fd, seen.mode % 0o1000);
     }
 }
 
+// Whether the file beside a name is the open one.
+pub fn is_ours(name: &[u8], ending: &[u8], fd: i32) -> bool {
+    let mut path = io::buffer();
+    let n = beside(&mut path, name, ending);
+    is_same(cli_files::of_open(fd), cli_files::of_name(&path[..n]))
+}
+
 // Leaves the table as it was.
 pub fn give_up(table: &[u8], fd: i32) {
+    if is_ours(table, b".new", fd) {
+        remove_new(table);
+    }
     libc::close(fd);
-    remove_new(table);
 }
 
 fn write_whole(fd: i32, t: &[u8]) -> bool {
@@ -355,26 +423,33 @@ fn write_whole(fd: i32, t: &[u8]) -> bool {
     libc::fsync(fd) == 0
 }
 
-// Writes TABLE.new, flushes it and closes it.
+// Writes TABLE.new and flushes it.
 fn is_written(table: &[u8], fd: i32, t: &[u8]) -> bool {
     let is_whole = write_whole(fd, t);
     if !is_whole {
         trouble_new(b"nothing was changed: can't write the new table", table);
     }
-    libc::close(fd);
     is_whole
 }
 
-// Writes TABLE.new, gives it the table's name and flushes the folder. Where the table was not saved, TABLE.new is the caller's to remove, after
+// Writes TABLE.new, gives it the table's name, which the file seen before must still have, and flushes the folder. Where the table was not saved, TABLE.new is the caller's to give up, after
 // all else that it has to undo.
-pub fn save(table: &[u8], fd: i32, t: &[u8]) -> Saved {
+pub fn save(table: &[u8], fd: i32, t: &[u8], seen: Seen) -> Saved {
     if !is_written(table, fd, t) {
+        return Saved::Not;
+    }
+    if !is_ours(table, b".new", fd) || !is_still(table, seen) {
+        tell(
+            table,
+            b"nothing was changed: another file took the table's name, or that of the new one, while the run was under way\n",
+        );
         return Saved::Not;
     }
     if !take_name(table, b".new") {
         say::trouble(b"nothing was changed: can't replace the table", table);
         return Saved::Not;
     }
+    libc::close(fd);
     if !flush_folder(table) {
         say::trouble(
             b"the table was changed, and a power failure may still undo it: can't flush its folder",
@@ -383,4 +458,13 @@ pub fn save(table: &[u8], fd: i32, t: &[u8]) -> Saved {
         return Saved::Unflushed;
     }
     Saved::Whole
+}
+
+// Whether a table is still what was seen of its name: that file, or nothing.
+fn is_still(table: &[u8], seen: Seen) -> bool {
+    let now = cli_files::of_name(table);
+    if !seen.found {
+        return !now.found;
+    }
+    is_same(now, seen)
 }

@@ -4,6 +4,7 @@ use crate::files;
 use crate::run;
 use crate::run::Run;
 use crate::underway;
+use terminal::asked;
 use terminal::say;
 
 // Takes the table; nobody where it can't be had, and who has it is told.
@@ -18,11 +19,11 @@ pub fn take(table: &[u8]) -> Run {
         return run::nobody();
     }
     let line = run::line(r);
-    let is_signed = io::write_all(fd, &line);
+    let is_signed = io::write_all(fd, &line) && libc::fsync(fd) == 0;
     libc::close(fd);
     if !is_signed {
         say::trouble_beside(b"can't write the lock", table, b".lock");
-        release(table);
+        files::remove(table, b".lock");
         return run::nobody();
     }
     r
@@ -40,10 +41,26 @@ fn tell_unmade(table: &[u8]) {
     );
 }
 
-pub fn release(table: &[u8]) {
+// Removes the lock, if it is still this run's.
+pub fn release(table: &[u8], r: Run) {
+    if !is_of(table, r) {
+        return;
+    }
     if !files::remove(table, b".lock") {
         say::trouble_beside(b"can't remove the lock", table, b".lock");
     }
+}
+
+// Whether the table is still this run's; told where it isn't.
+pub fn is_held(table: &[u8], r: Run) -> bool {
+    let is_so = is_of(table, r);
+    if !is_so {
+        files::tell(
+            table,
+            b"nothing was changed: the lock was removed while the run was under way\n",
+        );
+    }
+    is_so
 }
 
 // Names the replies in the lock: from here on a missing TABLE.new says that the table was saved.
@@ -88,7 +105,7 @@ fn tell(table: &[u8]) {
     let n = files::read_beside(table, b".lock", &mut lock);
     let r = run::read(&lock[..n]);
     if r.process == 0 {
-        tell_unsigned(table, n);
+        tell_unsigned(table);
         return;
     }
     if run::is_living(r) {
@@ -98,7 +115,12 @@ fn tell(table: &[u8]) {
     say::of_file(table, b".lock", b"left by ");
     run::tell(r);
     say::err(b", which runs no more and ");
-    tell_mend(table, run::name(&lock[..n]), r);
+    let name = run::name(&lock[..n]);
+    if asked::has_control(name) {
+        say::err(b"names its replies with control characters: nothing can be told of it\n");
+        return;
+    }
+    tell_mend(table, name, r);
 }
 
 // Whether the lock of a table is of that run.
@@ -114,9 +136,17 @@ fn end_at_lock(table: &[u8]) {
     say::end_line();
 }
 
-// A lock of n bytes that no run of this program has signed.
-fn tell_unsigned(table: &[u8], n: usize) {
-    if 0 < n {
+// A lock that no run of this program has signed.
+fn tell_unsigned(table: &[u8]) {
+    if !files::is_readable(table, b".lock") {
+        say::trouble_beside(
+            b"the table is in use, and nothing was changed: can't read the lock",
+            table,
+            b".lock",
+        );
+        return;
+    }
+    if !files::is_empty(table, b".lock") {
         say::of_file(
             table,
             b".lock",
@@ -140,8 +170,11 @@ fn tell_living(table: &[u8], r: Run) {
 // What is the case with the table after a run that was cut off, and what to type.
 pub fn tell_mend(table: &[u8], replies: &[u8], r: Run) {
     if files::is_there(table, b".new") {
+        // TABLE.new goes last: without it the lock would say that the table was saved
         tell_unchanged(table, replies, r);
-    } else if replies.len() == 0 {
+        return;
+    }
+    if replies.len() == 0 {
         say::err(b"may have changed the table: 'show' tells. To mend: rm");
     } else {
         tell_saved(replies, r);
@@ -150,15 +183,27 @@ pub fn tell_mend(table: &[u8], replies: &[u8], r: Run) {
 }
 
 fn tell_unchanged(table: &[u8], replies: &[u8], r: Run) {
-    say::err(b"did not change the table. To mend: rm -f");
+    say::err(b"did not change the table. To mend: ");
     if underway::is_of(replies, r) {
+        say::err(b"rm -f");
         say::quoted(replies, b".new");
         say::quoted(replies, b".run");
+        say::err(b" && ");
     }
+    say::err(b"rm");
+    say::quoted(table, b".lock");
+    say::err(b" && rm");
     say::quoted(table, b".new");
+    say::end_line();
 }
 
 fn tell_saved(replies: &[u8], r: Run) {
+    if !underway::is_of(replies, r) && !files::is_there(replies, b"") {
+        say::err(b"saved the table; its replies are no longer in");
+        say::quoted(replies, b"");
+        say::err(b", nor said to be under way: look for them. To mend: rm");
+        return;
+    }
     if !underway::is_of(replies, r) {
         say::err(b"saved the table; its replies are in");
         say::quoted(replies, b"");

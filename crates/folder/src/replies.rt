@@ -5,6 +5,7 @@ use crate::files::Saved;
 use crate::lock;
 use crate::run::Run;
 use crate::underway;
+use cli_files::Seen;
 use terminal::say;
 
 // How the listing goes: how many replies there were, how many of them are refusals, whether it ended, and whether all were read and listed.
@@ -53,7 +54,7 @@ pub fn begin(replies: &[u8], table: &[u8], r: Run) -> i32 {
     let out = files::make(replies, b".new");
     if out < 0 {
         tell_unmade(replies);
-        underway::end(replies);
+        underway::end(replies, r);
     }
     out
 }
@@ -70,42 +71,65 @@ fn tell_unmade(replies: &[u8]) {
     );
 }
 
-// Removes what was made of the replies: who makes them is told until the last.
-pub fn remove(replies: &[u8]) {
-    files::remove_new(replies);
-    underway::end(replies);
+// Removes what was made of the replies, if it is still this run's: who makes them is told until the last.
+pub fn remove(replies: &[u8], out: i32, r: Run) {
+    if files::is_ours(replies, b".new", out) {
+        files::remove_new(replies);
+    }
+    underway::end(replies, r);
 }
 
 // Nothing was changed: the replies' name leaves the lock before TABLE.new goes.
-pub fn undo(table: &[u8], kept: i32) {
-    lock::unname_replies(table);
+pub fn undo(table: &[u8], kept: i32, r: Run) {
+    if lock::is_of(table, r) {
+        lock::unname_replies(table);
+    }
     files::give_up(table, kept);
 }
 
-// Saves the table, then gives the replies their name; a descriptor of the replies to list, or -1.
-pub fn finish(table: &[u8], kept: i32, replies: &[u8], r: Run, t: &[u8]) -> i32 {
-    let listed = files::open_beside(replies, b".new");
-    if listed < 0 {
-        files::trouble_new(b"nothing was changed: can't read the replies", replies);
-        remove(replies);
-        undo(table, kept);
-        return -1;
+// Whether table and replies are still this run's, just before the table is saved.
+fn is_ready(table: &[u8], replies: &[u8], out: i32, r: Run) -> bool {
+    if !lock::is_held(table, r) {
+        return false;
     }
-    let saved = files::save(table, kept, t);
+    let is_so = files::is_ours(replies, b".new", out) && underway::is_of(replies, r);
+    if !is_so {
+        say::of_file(
+            replies,
+            b".new",
+            b"nothing was changed: another file took the name of the replies while the run was under way\n",
+        );
+    }
+    is_so
+}
+
+// Saves the table, then gives the replies their name; whether they are to be listed.
+pub fn is_finished(
+    table: &[u8],
+    kept: i32,
+    seen: Seen,
+    replies: &[u8],
+    out: i32,
+    r: Run,
+    t: &[u8],
+) -> bool {
+    if !is_ready(table, replies, out, r) {
+        remove(replies, out, r);
+        undo(table, kept, r);
+        return false;
+    }
+    let saved = files::save(table, kept, t, seen);
     match saved {
         Saved::Not => {
-            libc::close(listed);
-            remove(replies);
-            lock::unname_replies(table);
-            files::remove_new(table);
-            -1
+            remove(replies, out, r);
+            undo(table, kept, r);
+            false
         }
         Saved::Unflushed => {
             tell_unflushed(replies, r);
-            libc::close(listed);
-            -1
+            false
         }
-        Saved::Whole => named(replies, r, listed),
+        Saved::Whole => is_named(replies, out, r),
     }
 }
 
@@ -119,9 +143,22 @@ fn tell_unflushed(replies: &[u8], r: Run) {
     say::end_line();
 }
 
-// Gives the replies their name, which nothing has.
-fn named(replies: &[u8], r: Run, listed: i32) -> i32 {
-    if files::is_there(replies, b"") || !files::take_name(replies, b".new") {
+// Takes a name that nothing has; renaming alone would replace a file that came meanwhile.
+fn is_taken(replies: &[u8]) -> bool {
+    let fd = files::make(replies, b"");
+    if fd < 0 {
+        return false;
+    }
+    libc::close(fd);
+    true
+}
+
+// Gives the replies their name.
+fn is_named(replies: &[u8], out: i32, r: Run) -> bool {
+    if !files::is_ours(replies, b".new", out)
+        || !is_taken(replies)
+        || !files::take_name(replies, b".new")
+    {
         say::of_file(
             replies,
             b".new",
@@ -129,8 +166,7 @@ fn named(replies: &[u8], r: Run, listed: i32) -> i32 {
         );
         underway::tell_move(replies, r);
         say::end_line();
-        libc::close(listed);
-        return -1;
+        return false;
     }
     if !files::flush_folder(replies) {
         say::trouble(
@@ -138,8 +174,8 @@ fn named(replies: &[u8], r: Run, listed: i32) -> i32 {
             replies,
         );
     }
-    underway::end(replies);
-    listed
+    underway::end(replies, r);
+    true
 }
 
 // A reply, if there is one, and its LF.

@@ -4,6 +4,7 @@ use crate::files;
 use crate::lock;
 use crate::run;
 use crate::run::Run;
+use terminal::asked;
 use terminal::say;
 
 // Whether the replies under way are of that run.
@@ -45,12 +46,16 @@ pub fn begin(replies: &[u8], table: &[u8], r: Run) -> bool {
             replies,
             b".run",
         );
-        end(replies);
+        files::remove(replies, b".run");
     }
     is_whole
 }
 
-pub fn end(replies: &[u8]) {
+// Gives the replies' name up, if it is still this run's.
+pub fn end(replies: &[u8], r: Run) {
+    if !is_of(replies, r) {
+        return;
+    }
     if !files::remove(replies, b".run") {
         say::trouble_beside(b"can't remove", replies, b".run");
     }
@@ -64,14 +69,31 @@ fn tell_unmade(replies: &[u8]) {
     let mut file = io::large_buffer();
     let n = files::read_beside(replies, b".run", &mut file);
     let r = run::read(&file[..n]);
-    if r.process == 0 {
+    let table = run::name(&file[..n]);
+    if r.process == 0 || asked::has_control(table) {
         tell_unsigned(replies);
         return;
     }
-    tell_other(replies, run::name(&file[..n]), r);
+    tell_other(replies, table, r);
 }
 
 fn tell_unsigned(replies: &[u8]) {
+    if !files::is_readable(replies, b".run") {
+        say::trouble_beside(
+            b"nothing was changed: replies of that name are under way, and it can't be read whose",
+            replies,
+            b".run",
+        );
+        return;
+    }
+    if !files::is_empty(replies, b".run") {
+        say::of_file(
+            replies,
+            b".run",
+            b"there is a file already, which this program did not write; nothing was changed: choose another name for REPLIES\n",
+        );
+        return;
+    }
     say::of_file(
         replies,
         b".run",
@@ -113,25 +135,38 @@ fn tell_unsure(replies: &[u8], r: Run) {
     say::end_line();
 }
 
-// What to type so that the replies of a saved table get their name, or a free one where another file has it by now.
+// What to type so that the replies of a saved table get their name, or a free one where another file has it by now. An empty one is the run's own,
+// made just before it was cut off.
 pub fn tell_move(replies: &[u8], r: Run) {
+    if files::is_empty(replies, b"") {
+        say::err(b". To mend: mv");
+        tell_moved(replies, b"");
+        return;
+    }
     if files::is_there(replies, b"") {
         say::err(b", and another file has their name by now");
         tell_aside(replies, r);
         return;
     }
-    say::err(b". To mend: mv -n");
-    say::quoted(replies, b".new");
-    say::quoted(replies, b"");
-    say::err(b" && rm");
-    say::quoted(replies, b".run");
+    tell_free(replies, b"");
 }
 
 fn tell_aside(replies: &[u8], r: Run) {
     let ending = run::ending(r);
-    say::err(b". To mend: mv -n");
+    tell_free(replies, &ending);
+}
+
+// `mv -n` alone would say that all went well where it did nothing.
+fn tell_free(replies: &[u8], ending: &[u8]) {
+    say::err(b". To mend: test ! -e");
+    say::quoted(replies, ending);
+    say::err(b" && mv -n");
+    tell_moved(replies, ending);
+}
+
+fn tell_moved(replies: &[u8], ending: &[u8]) {
     say::quoted(replies, b".new");
-    say::quoted(replies, &ending);
+    say::quoted(replies, ending);
     say::err(b" && rm");
     say::quoted(replies, b".run");
 }

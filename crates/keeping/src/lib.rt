@@ -1,26 +1,48 @@
 // The commands that keep a table: setup, add, key, order, each one of `register`'s calls between a load and a save.
+use cli_files::Seen;
 use folder::files;
 use folder::files::Saved;
 use folder::holidays;
 use folder::lock;
 use folder::names;
+use folder::run;
+use folder::run::Run;
 use terminal::asked;
 use terminal::options;
 use terminal::say;
 use terminal::status::Status;
 
+// A table that is taken, and what was seen of it then.
+struct Held {
+    run: Run,
+    seen: Seen,
+}
+
+fn not_held() -> Held {
+    Held {
+        run: run::nobody(),
+        seen: cli_files::of_name(b""),
+    }
+}
+
 // Saves the table that a served call left, and answers.
-fn saved(table: &[u8], t: &[u8]) -> Status {
+fn saved(table: &[u8], t: &[u8], h: Held) -> Status {
+    let r = h.run;
+    let seen = h.seen;
     let fd = files::begin(table);
     if fd < 0 {
-        lock::release(table);
+        lock::release(table, r);
         return Status::Trouble;
     }
-    let saved = files::save(table, fd, t);
-    if let Saved::Not = saved {
-        files::remove(table, b".new");
+    if !lock::is_held(table, r) {
+        files::give_up(table, fd);
+        return Status::Trouble;
     }
-    lock::release(table);
+    let saved = files::save(table, fd, t, seen);
+    if let Saved::Not = saved {
+        files::give_up(table, fd);
+    }
+    lock::release(table, r);
     if let Saved::Whole = saved {
         return say::answer(0);
     }
@@ -28,27 +50,29 @@ fn saved(table: &[u8], t: &[u8]) -> Status {
 }
 
 // Answers a call on that day.
-fn answer(table: &[u8], t: &[u8], today: calendar::Date, refusal: u32) -> Status {
+fn answer(table: &[u8], t: &[u8], h: Held, today: calendar::Date, refusal: u32) -> Status {
     if refusal == 0 {
-        return saved(table, t);
+        return saved(table, t, h);
     }
-    lock::release(table);
-    cli_days::answer(t, today, 0, refusal)
+    let r = h.run;
+    lock::release(table, r);
+    cli_days::answer(table::day(t), today, 0, refusal)
 }
 
 // Takes the table and loads it for a call on that day; the lock stays only where that succeeds.
-fn is_loaded(table: &[u8], t: &mut [u8], today: calendar::Date) -> bool {
+fn loaded(table: &[u8], t: &mut [u8], today: calendar::Date) -> Held {
     let r = lock::take(table);
     if r.process == 0 {
-        return false;
+        return not_held();
     }
+    let seen = cli_files::of_name(table);
     if files::load(table, t) {
         if cli_days::is_meant(t, today) {
-            return true;
+            return Held { run: r, seen };
         }
     }
-    lock::release(table);
-    false
+    lock::release(table, r);
+    not_held()
 }
 
 // ---- setup
@@ -107,17 +131,23 @@ fn set_up(table: &[u8], s: register::Setting, d: words::Dates) -> Status {
     if r.process == 0 {
         return Status::Trouble;
     }
+    let seen = cli_files::of_name(table);
     if !files::is_free(table) {
-        lock::release(table);
+        lock::release(table, r);
         return Status::Trouble;
     }
+    set_up_held(table, Held { run: r, seen }, s, d)
+}
+
+fn set_up_held(table: &[u8], h: Held, s: register::Setting, d: words::Dates) -> Status {
+    let r = h.run;
     let mut t = [0u8; 49152];
     let dates = d.dates;
     let refusal = set_up_with(&mut t, s, &dates, d.count);
     if refusal == 0 {
-        return saved(table, &t);
+        return saved(table, &t, h);
     }
-    lock::release(table);
+    lock::release(table, r);
     cli_days::answer_setup(&dates, refusal)
 }
 
@@ -197,11 +227,13 @@ fn add_words(table: &[u8]) -> Status {
 fn add_to(table: &[u8], a: register::Adding) -> Status {
     let today = a.today;
     let mut t = [0u8; 49152];
-    if !is_loaded(table, &mut t, today) {
+    let h = loaded(table, &mut t, today);
+    let r = h.run;
+    if r.process == 0 {
         return Status::Trouble;
     }
     let refusal = register::add(&mut t, a);
-    answer(table, &t, today, refusal)
+    answer(table, &t, h, today, refusal)
 }
 
 // ---- key
@@ -285,11 +317,13 @@ pub fn key() -> Status {
 fn enter(table: &[u8], e: register::Entering) -> Status {
     let today = e.today;
     let mut t = [0u8; 49152];
-    if !is_loaded(table, &mut t, today) {
+    let h = loaded(table, &mut t, today);
+    let r = h.run;
+    if r.process == 0 {
         return Status::Trouble;
     }
     let refusal = register::enter(&mut t, e);
-    answer(table, &t, today, refusal)
+    answer(table, &t, h, today, refusal)
 }
 
 // ---- order
@@ -329,9 +363,11 @@ fn order_words(table: &[u8]) -> Status {
 fn order_in(table: &[u8], o: register::Ordering) -> Status {
     let today = o.today;
     let mut t = [0u8; 49152];
-    if !is_loaded(table, &mut t, today) {
+    let h = loaded(table, &mut t, today);
+    let r = h.run;
+    if r.process == 0 {
         return Status::Trouble;
     }
     let refusal = register::order(&mut t, o);
-    answer(table, &t, today, refusal)
+    answer(table, &t, h, today, refusal)
 }
