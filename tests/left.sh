@@ -181,21 +181,22 @@ echo 1 >t.lock
 receive t "$file" r >out 2>told && fail "a lock was overrun"
 grep -qF "a lock that this program did not write" told && [ ! -s out ] && cmp -s t old || fail "expected to be told of the lock"
 rm -f t.lock
-# Ctrl-C and TERM leave what a kill leaves
+# Ctrl-C and TERM leave what a kill leaves. A shell has its background jobs ignore INT, and so may whoever started this one.
+env --default-signal=INT true 2>/dev/null && heeding="env --default-signal=INT" || heeding=
 for signal in INT TERM; do
     state="ended by $signal"
+    [ $signal = TERM ] || [ -n "$heeding" ] || continue
     rm -f pipe
     mkfifo pipe
-    # a job of its own, for a shell has others ignore INT
-    set -m
-    receive t pipe r >out 2>told &
+    exec 9<>pipe
+    $heeding sh "$root/scripts/runbin" "$program" receive t 941017 091500 1 0000000000000001 pipe r >out 2>told 9>&- &
     run=$!
-    set +m
-    exec 9>pipe
     turns=0
     while [ ! -e r.new ] && [ $turns -lt 200 ]; do turns=$((turns + 1)); sleep 0.05; done
-    pid=$(head -n 1 t.lock | cut -c1-10 | sed 's/^0*//')
-    kill -s $signal "$pid"
+    kill -s $signal $run
+    turns=0
+    while kill -0 $run 2>/dev/null && [ $turns -lt 200 ]; do turns=$((turns + 1)); sleep 0.05; done
+    kill -s KILL $run 2>/dev/null && fail "the run goes on"
     wait $run 2>/dev/null || true
     exec 9>&-
     [ -e t.lock ] && [ -e t.new ] && [ -e r.new ] || fail "expected what a kill leaves"

@@ -90,9 +90,9 @@ mkdir a b
 cp old a/t
 cp old b/t
 mkfifo b/file
-receive b/t b/file r >b/listing 2>b/told &
+exec 9<>b/file
+receive b/t b/file r >b/listing 2>b/told 9>&- &
 run=$!
-exec 9>b/file
 # the run has opened its file, and soon makes its replies
 turns=0
 while [ ! -e r.new ] && [ $turns -lt 200 ]; do turns=$((turns + 1)); sleep 0.05; done
@@ -107,9 +107,9 @@ grep -q '^K' b/listing && [ ! -e r.new ] && [ ! -e r.run ] && [ ! -e b/t.lock ] 
 # the same, but it is killed: the mend is that of its own table, whichever table is asked for
 rm r
 cp old b/t
-receive b/t b/file r >b/listing 2>b/told &
+exec 9<>b/file
+receive b/t b/file r >b/listing 2>b/told 9>&- &
 run=$!
-exec 9>b/file
 turns=0
 while [ ! -e r.new ] && [ $turns -lt 200 ]; do turns=$((turns + 1)); sleep 0.05; done
 kill -s KILL "$(head -n 1 b/t.lock | cut -c1-10 | sed 's/^0*//')"
@@ -129,9 +129,9 @@ meddled() { # WHAT TEXT
     mkdir m
     cp old m/t
     mkfifo m/file
-    (umask 000 && receive m/t m/file m/r >m/listing 2>m/told) &
+    exec 9<>m/file
+    (umask 000 && receive m/t m/file m/r >m/listing 2>m/told) 9>&- &
     run=$!
-    exec 9>m/file
     turns=0
     while [ ! -e m/r.new ] && [ $turns -lt 200 ]; do turns=$((turns + 1)); sleep 0.05; done
     [ "$(stat -c %a m/t.new)" = 600 ] || fail "the new table, which is to hold keys, has mode $(stat -c %a m/t.new)"
