@@ -65,8 +65,8 @@ pub fn of(command: u32) -> bool {
             b"usage: lentilpot setup TABLE BANK QUALIFIER SOFTWARE FLOOR K V [HOLIDAYS]
 
 Sets up a bank's table.
-TABLE is the name of no file, or of an empty one. A table is never replaced:
-its used stamps would be forgotten. The settings can't be changed later.
+TABLE is the name of a new file. A table is never replaced: its used stamps
+would be forgotten. The settings can't be changed later.
 
   TABLE         the bank's file, made by setup
                 The bank's settings and customers, with keys and used stamps:
