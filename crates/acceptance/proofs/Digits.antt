@@ -5,8 +5,9 @@ use mathlib.Core.Bool.{Bool, true}
 use mathlib.Core.List.{List}
 use Prim.Native.Nat.{ℕ, _+_, _/_, _%_}
 use native.Mathlib.Omega.{arith}
-use Rattle.calendar.specs.Dates.{realDate, earlier, dayNumber}
+use Rattle.calendar.specs.Dates.{dated, realDate, isBefore, dayNumber}
 use Rattle.calendar.specs.Banking.{bankingDaysAfter, tooOld, earliestGood}
+use Rattle.calendar.specs.declared.Date.{Date}
 use Rattle.calendar.proofs.Old.{too-old-earliest}
 
 pub six-digits : (d : ℕ) → dayNumber (d % 1000000) ≡ dayNumber d
@@ -17,12 +18,12 @@ six-digits d =
     let e : d % 1000000 % 100 ≡ d % 100 = omega arith in
     rw (y, m, e)
 
-pub as-old : (hs : List ℕ) (d today : ℕ) → tooOld hs (d % 1000000) today ≡ tooOld hs d today
+pub as-old : (hs : List ℕ) (d : ℕ) (today : Date) → tooOld hs (dated (d % 1000000)) today ≡ tooOld hs (dated d) today
 unfolding tooOld bankingDaysAfter
 as-old hs d today = rw (six-digits d)
 
 -- where both dates are real, the earliest date that is not too old decides
-pub old-before : (hs : List ℕ) (d today e : ℕ) (r : Bool) → realDate (d % 1000000) ≡ true → realDate today ≡ true
-    → e ≡ earliestGood hs today → r ≡ earlier (d % 1000000) e → r ≡ tooOld hs d today
+pub old-before : (hs : List ℕ) (d : ℕ) (today e : Date) (r : Bool) → realDate (d % 1000000) ≡ true → realDate (today .yymmdd) ≡ true
+    → e ≡ earliestGood hs today → r ≡ isBefore (dated (d % 1000000)) e → r ≡ tooOld hs (dated d) today
 old-before hs d today e r p q h k =
-    k ∙ ap (earlier (d % 1000000)) h ∙ sym (too-old-earliest hs (d % 1000000) today p q) ∙ as-old hs d today
+    k ∙ ap (isBefore (dated (d % 1000000))) h ∙ sym (too-old-earliest hs (dated (d % 1000000)) today p q) ∙ as-old hs d today

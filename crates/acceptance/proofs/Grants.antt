@@ -1,6 +1,6 @@
 -- What acceptance grants: each choice is one of a few answers, and what holds of each of them holds of what is chosen.
 -- Assumes nothing.
-use mathlib.Core.Path.{_≡_, refl, sym, ap, _∙_}
+use mathlib.Core.Path.{_≡_, refl, sym, ap, subst, _∙_}
 use mathlib.Core.Bool.{Bool, true, false, not}
 use mathlib.Core.List.{List, [], _∷_}
 use mathlib.Core.Logic.{_⊎_, inl, inr, ⊎-elim}
@@ -8,21 +8,25 @@ use Prim.Native.Nat.{ℕ, _≤_}
 use native.Mathlib.Omega.{arith}
 use Rattle.ground.specs.Choice.{either, fails, pick}
 use Rattle.ground.proofs.Choices.{picks, skips, left, right}
+use Rattle.ground.proofs.Bools.{picked-each}
 use Rattle.ground.specs.Lists.{member}
+use Rattle.ground.proofs.Bools.{turned}
 use Rattle.calendar.specs.Dates.{realDate}
+use Rattle.calendar.specs.declared.Date.{Date}
 use Rattle.keys.specs.Parity.{oddParity}
 use Rattle.keys.specs.Maker.{keyOf, nextSeed}
 use Rattle.keys.specs.declared.KeyMaker.{KeyMaker}
 use Rattle.keys.proofs.Laws.{made-odd}
-use Rattle.customer.proofs.Chain.{turned}
 use Rattle.customer.specs.Customer.{soundCustomer, soundKeys}
 use Rattle.customer.specs.declared.Customer.{Customer}
 use Rattle.changeover.specs.Changes.{withKeys, withWorking, withoutPrevious}
 use Rattle.changeover.specs.declared.Key.{Key}
 use Rattle.changeover.specs.declared.Key.the-variants.{Missing, Is}
 use Rattle.changeover.proofs.Laws.{with-working-sound, without-previous-sound}
-use Rattle.acceptance.specs.Grants.{granted, underPrevious, newKey, underCurrent, grantedBy}
+use Rattle.acceptance.specs.Grants.{grantedBy}
+use Rattle.acceptance.specs.Steps.{granted, underPrevious, newKey, underCurrent}
 use Rattle.acceptance.specs.declared.Granted.{Granted}
+use Rattle.acceptance.proofs.Rows.{by-rows}
 
 -- ---- an answer, where the tests lead to it
 
@@ -43,33 +47,31 @@ allowed t e = sym (turned refl) ∙ e
 abbrev pub codes : List ℕ
 codes = 1001 ∷ 1002 ∷ 1003 ∷ 1004 ∷ 1005 ∷ 1036 ∷ 1037 ∷ []
 
-chosen : (P : Granted → Type 0) (t : Bool) (a b : Granted) → P a → P b → P (pick t a b)
-unfolding pick
-chosen P true a b p q = p
-chosen P false a b p q = q
-
-module _ (c : Customer) (maker : KeyMaker) (clock today generation request : ℕ) where
+module _ (c : Customer) (maker : KeyMaker) (clock : ℕ) (today : Date) (generation request : ℕ) where
   -- the customer as it was, without its previous key, or with a new one
   module _ (P : Granted → Type 0)
-      (same : (code : ℕ) (key : Key) → member code codes ≡ true → (key ≡ Missing) ⊎ (key ≡ Is (c .working .key)) → P (granted code c key 0 (maker .seed)))
+      (same : (code : ℕ) (key : Key) → member code codes ≡ true → (key ≡ Missing) ⊎ (key ≡ Is (c .working .key))
+      → P (granted code c key 0 (maker .seed)))
       (dropped : P (granted 1036 (withoutPrevious c) Missing 0 (maker .seed)))
-      (renewed : (key : ℕ) → key ≡ keyOf (maker .key) (maker .seed) clock → P (granted 1003 (withWorking c key today) (Is key) 1 (nextSeed (maker .key) (maker .seed) clock))) where
+      (renewed : (key : ℕ) → key ≡ keyOf (maker .key) (maker .seed) clock
+      → P (granted 1003 (withWorking c key today) (Is key) 1 (nextSeed (maker .key) (maker .seed) clock))) where
     by-previous : P (underPrevious c maker request)
     unfolding underPrevious member either
-    by-previous = chosen P _ _ _ (same 1002 _ refl (inr refl)) (chosen P _ _ _ (same 1003 _ refl (inr refl)) (same 1037 _ refl (inl refl)))
+    by-previous = picked-each P _ _ _ (same 1002 _ refl (inr refl))
+        (picked-each P _ _ _ (same 1003 _ refl (inr refl)) (same 1037 _ refl (inl refl)))
 
     by-current : P (underCurrent c maker clock today request)
     unfolding underCurrent newKey member either
     by-current =
-        chosen P _ _ _ (same 1001 _ refl (inl refl))
-        (chosen P _ _ _ (chosen P _ _ _ (same 1004 _ refl (inl refl)) (chosen P _ _ _ (same 1005 _ refl (inl refl)) (renewed _ refl)))
-        (chosen P _ _ _ dropped (same 1037 _ refl (inl refl))))
+        picked-each P _ _ _ (same 1001 _ refl (inl refl))
+        (picked-each P _ _ _ (picked-each P _ _ _ (same 1004 _ refl (inl refl))
+        (picked-each P _ _ _ (same 1005 _ refl (inl refl)) (renewed _ refl)))
+        (picked-each P _ _ _ dropped (same 1037 _ refl (inl refl))))
 
     pub by-answer : P (grantedBy c maker clock today generation request)
-    unfolding grantedBy
-    by-answer = chosen P _ _ _ by-current by-previous
+    by-answer = subst P (sym (by-rows c maker clock today generation request)) (picked-each P _ _ _ by-current by-previous)
 
-  pub grant-sound : soundCustomer c ≡ true → realDate today ≡ true
+  pub grant-sound : soundCustomer c ≡ true → realDate (today .yymmdd) ≡ true
       → soundCustomer (grantedBy c maker clock today generation request .customer) ≡ true
   grant-sound s t =
       by-answer (λ g. soundCustomer (g .customer) ≡ true) (λ code key m w. s) (without-previous-sound c s)
@@ -106,6 +108,8 @@ module _ (c : Customer) (maker : KeyMaker) (clock today generation request : ℕ
   grant-odd s =
       let odd : oddParity (c .working .key) ≡ true = left _ _ (right _ _ (left _ _ (right _ _ (right _ _ (right _ _ (right _ _ s)))))) in
       by-answer (λ g. (x : ℕ) → g .enclosed ≡ Is x → oddParity x ≡ true)
-      (λ code key m w x e. ⊎-elim (λ h. absurd (let z : _≡_ {A = ℕ} 0 1 = cc in omega arith)) (λ h. let k : c .working .key ≡ x = cc in ap oddParity (sym k) ∙ odd) w)
+      (λ code key m w x e. ⊎-elim (λ h. absurd (let z : _≡_ {A = ℕ} 0 1 = cc in omega arith))
+      (λ h. let k : c .working .key ≡ x = cc in ap oddParity (sym k) ∙ odd) w)
       (λ x e. absurd (let z : _≡_ {A = ℕ} 0 1 = cc in omega arith))
-      (λ key e x h. let k : key ≡ x = cc in ap oddParity (sym k) ∙ ap oddParity e ∙ made-odd (record { key = maker .key; seed = maker .seed }) clock)
+      (λ key e x h. let k : key ≡ x = cc in ap oddParity (sym k) ∙ ap oddParity e
+      ∙ made-odd (record { key = maker .key; seed = maker .seed }) clock)

@@ -2,5 +2,6 @@
 pub mod Digits
 pub mod Room
 pub mod Lives
+pub mod Rows
 pub mod Grants
 pub mod Purge

@@ -12,12 +12,14 @@ use borrow.Author.Tests.{eq-eqb, ne-eqb}
 use Rattle.ground.specs.Choice.{pick}
 use Rattle.ground.specs.Lists.{member}
 use Rattle.ground.proofs.Choices.{picks, skips, decides, fails-left, either-left, either-decides}
+use Rattle.ground.proofs.Lists.{held-next, held-none, member-cons}
+use Rattle.ground.proofs.Bools.{denied, granted}
+use Rattle.calendar.specs.declared.Date.{Date}
 use Rattle.customer.specs.declared.Customer.{Customer}
-use Rattle.changeover.proofs.Laws.{denied, granted}
 use Rattle.acceptance.specs.Stamps.{stampOld, liveOf, liveStamps, liveOnce, onceUsed, inPlaces, withStamp}
-use Rattle.acceptance.proofs.Room.{held-next, held-none, member-cons, in-places, placed, unplaced}
+use Rattle.acceptance.proofs.Room.{in-places, placed, unplaced}
 
-module _ (hs : List ℕ) (today : ℕ) where
+module _ (hs : List ℕ) (today : Date) where
   live-cons : (s x : ℕ) (ss xs : List ℕ) (b : Bool) → stampOld hs today s ≡ b
       → liveOf hs today (s ∷ ss) (x ∷ xs) ≡ pick b (liveOf hs today ss xs) (x ∷ liveOf hs today ss xs)
   unfolding liveOf

@@ -7,43 +7,24 @@ use mathlib.Core.Logic.{⊎-elim}
 use Prim.Native.Nat.{ℕ, zero, suc, _+_, _-_, _<_}
 use native.Mathlib.Numerals.{add-one}
 use native.Mathlib.Omega.{arith}
-use borrow.Author.Tests.{eqb-true, eq-eqb, le-leb}
+use borrow.Author.Tests.{eqb-true, le-leb}
 use lib.Dec.{eqb}
 use lib.ListN.{length, take, replicate, length-append}
 use Rattle.ground.specs.Choice.{both, either, pick}
 use Rattle.ground.specs.Lists.{member}
 use Rattle.ground.proofs.Choices.{left, right, join, either-left, either-right, either-cases}
+use Rattle.ground.proofs.Lists.{member-cons, member-front, member-last, member-none}
+use Rattle.ground.proofs.Bools.{under, unless}
+use Rattle.calendar.specs.declared.Date.{Date}
 use Rattle.customer.specs.Customer.{realStamp, soundOnce, soundStamps, soundCustomer}
 use Rattle.customer.specs.declared.Customer.{Customer}
 use Rattle.customer.proofs.Laws.{used}
-use Rattle.changeover.proofs.Laws.{under}
 use Rattle.acceptance.specs.Stamps.{heldStamps, stampOld, liveOf, liveStamps, liveOnce, inPlaces, withStamp}
-use Rattle.acceptance.proofs.Room.{member-cons, in-places, length-in-places, all-held}
+use Rattle.acceptance.proofs.Room.{in-places, length-in-places, all-held}
 
 -- ---- what stands in a list
 
-member-none : (x : ℕ) → member x [] ≡ false
-unfolding member
-member-none x = refl
-
-member-front : (x : ℕ) (l m : List ℕ) → member x l ≡ true → member x (l ++ m) ≡ true
-unfolding member
-member-front x [] m e = cc
-member-front x (y ∷ l) m e =
-    ⊎-elim (λ h. either-left (eqb y x) _ h) (λ h. either-right (eqb y x) _ (member-front x l m h))
-    (either-cases (eqb y x) (member x l) e)
-
-member-last : (x : ℕ) (l : List ℕ) → member x (l ++ (x ∷ [])) ≡ true
-unfolding member
-member-last x [] = either-left (eqb x x) _ (eq-eqb x x refl)
-member-last x (y ∷ l) = either-right (eqb y x) _ (member-last x l)
-
 -- ---- what is live
-
--- a test that can't fail holds
-unless : (b : Bool) → (b ≡ false → true ≡ false) → b ≡ true
-unless true f = refl
-unless false f = sym (f refl)
 
 clash : {b : Bool} → true ≡ false → b ≡ true
 clash e = cc
@@ -55,7 +36,7 @@ member-pick s y l true f e =
     ⊎-elim {C = member s l ≡ true} (λ h. clash (f (eqb-true y s h))) (λ h. h) (either-cases (eqb y s) (member s l) e)
 member-pick s y l false f e = e
 
-module _ (hs : List ℕ) (today : ℕ) where
+module _ (hs : List ℕ) (today : Date) where
   member-live : (s : ℕ) (l : List ℕ) → member s l ≡ true → stampOld hs today s ≡ false → member s (liveOf hs today l l) ≡ true
   unfolding liveOf
   member-live s [] e o = absurd (let z : _≡_ {A = ℕ} 0 1 = cc (member-none s) in omega arith)
@@ -127,10 +108,11 @@ unfolding pick
 length-pick true s k ss ks e = e
 length-pick false s k ss ks e = ap suc e
 
-module _ (hs : List ℕ) (today : ℕ) where
+module _ (hs : List ℕ) (today : Date) where
   -- of sound stamps those that are live are sound
   sound-live : (n : ℕ) (ss ks : List ℕ) → length ss ≡ length ks → soundStamps n ss ks ≡ true
-      → soundStamps (length (liveOf hs today (take n ss) (take n ss))) (liveOf hs today (take n ss) (take n ss)) (liveOf hs today (take n ss) (take n ks)) ≡ true
+      → soundStamps (length (liveOf hs today (take n ss) (take n ss))) (liveOf hs today (take n ss) (take n ss))
+      (liveOf hs today (take n ss) (take n ks)) ≡ true
   unfolding liveOf soundStamps
   sound-live zero ss ks l e = refl
   sound-live (suc n) [] ks l e = refl
@@ -161,7 +143,7 @@ sound-places ss ks s k l h e u =
     rw (in-places-snoc ss s (length ss) refl h, in-places-snoc ks k (length ss) (sym l) h, add-one (length ss))
     (sound-more ss ks _ _ s k l e u (sound-zeros (63 - length ss)))
 
-pub with-stamp-sound : (hs : List ℕ) (today : ℕ) (c : Customer) (stamp once : ℕ) → soundCustomer c ≡ true
+pub with-stamp-sound : (hs : List ℕ) (today : Date) (c : Customer) (stamp once : ℕ) → soundCustomer c ≡ true
     → length (c .stamps) ≡ 64 → length (c .once) ≡ 64 → length (liveStamps hs today c) < 64
     → realStamp stamp ≡ true → soundOnce once ≡ true → soundCustomer (withStamp hs today c stamp once) ≡ true
 unfolding soundCustomer withStamp

@@ -3,44 +3,15 @@
 use mathlib.Core.Path.{_≡_, refl, sym, ap, _∙_}
 use mathlib.Core.List.{List, [], _∷_, _++_, append-assoc}
 use Prim.Native.Nat.{ℕ, suc, _+_, _-_, _≤_, _<_}
-use native.Mathlib.Numerals.{add-one}
 use native.Mathlib.Omega.{arith}
-use lib.ListN.{length, take, drop, getD, set, replicate, length-append, length-replicate, drop-of-length-le, replicate-append-replicate}
-use lib.Seq.{take-all, take-append-le, take-append-add, take-at, drop-cons, getD-take, length-take-le, set-at}
-use lib.Dec.{eqb}
-use Rattle.ground.specs.Choice.{either}
-use Rattle.ground.specs.Lists.{member}
+use lib.ListN.{length, take, set, replicate, length-append}
+use lib.Seq.{take-all, take-append-le, take-append-add, take-at, length-take-le, set-at}
+use Rattle.ground.proofs.Lists.{take-zeros}
 use Rattle.acceptance.specs.Stamps.{inPlaces}
 
 -- the first r of 64 are all that any larger count takes
 pub take-more : (n : ℕ) (l : List ℕ) → length l ≡ 64 → 64 ≤ n → take n l ≡ take 64 l
 take-more n l e h = take-all n l (omega arith) ∙ sym (take-all 64 l (omega arith))
-
--- what is held from place i on
-pub held-next : (n : ℕ) (l : List ℕ) (i : ℕ) → i < n → n ≤ length l
-    → drop i (take n l) ≡ getD l i 0 ∷ drop (i + 1) (take n l)
-held-next n l i h k =
-    let e : length (take n l) ≡ n = length-take-le n l k in
-    drop-cons (take n l) i 0 (omega arith) ∙ rw (add-one i, getD-take n l i 0 h)
-
-pub held-none : (n : ℕ) (l : List ℕ) (i : ℕ) → n ≤ i → n ≤ length l → drop i (take n l) ≡ []
-held-none n l i h k =
-    let e : length (take n l) ≡ n = length-take-le n l k in drop-of-length-le (take n l) {i = i} (omega arith)
-
-pub member-cons : (x y : ℕ) (l : List ℕ) → member x (y ∷ l) ≡ either (eqb y x) (member x l)
-unfolding member
-member-cons x y l = refl
-
-pub member-next : (x n : ℕ) (l : List ℕ) (i : ℕ) → i < n → n ≤ length l
-    → member x (drop i (take n l)) ≡ either (eqb (getD l i 0) x) (member x (drop (i + 1) (take n l)))
-member-next x n l i h k = ap (member x) (held-next n l i h k) ∙ member-cons x _ _
-
-replicate-take : (n m : ℕ) → n ≤ m → _≡_ {A = List ℕ} (take n (replicate m 0)) (replicate n 0)
-replicate-take n m h =
-    let s : n + (m - n) ≡ m = omega arith in
-    ap (λ (k : ℕ). take {A = ℕ} n (replicate {A = ℕ} k 0)) (sym s)
-    ∙ ap (λ (l : List ℕ). take n l) (sym (replicate-append-replicate n (m - n) 0))
-    ∙ take-at (replicate n 0) (replicate (m - n) 0) n (length-replicate n 0)
 
 -- a list and zeros after it
 pub in-places : (l : List ℕ) → length l ≤ 64 → inPlaces l ≡ l ++ replicate (64 - length l) 0
@@ -48,7 +19,7 @@ in-places l h =
     let s : length l + (64 - length l) ≡ 64 = omega arith in
     ap (λ (n : ℕ). take n (l ++ replicate 64 0)) (sym s)
     ∙ take-append-add l (replicate 64 0) (64 - length l)
-    ∙ ap (_++_ l) (replicate-take (64 - length l) 64 (omega arith))
+    ∙ ap (_++_ l) (take-zeros (64 - length l) 64 (omega arith))
 
 pub length-in-places : (l : List ℕ) → length (inPlaces l) ≡ 64
 length-in-places l = length-take-le 64 (l ++ replicate 64 0) (rw (length-append l (replicate 64 0)) (omega arith))

@@ -5,7 +5,8 @@ ghost use Prim.Native.Nat.{ℕ, _≤_};
 ghost use lib.ListN.{length, take};
 ghost use Rattle.calendar.specs.Banking.{earliestGood};
 ghost use Rattle.acceptance.specs.Stamps.{holdsStamp, stampOld, liveStamps, liveOnce, onceUsed, inPlaces, withStamp};
-ghost use Rattle.acceptance.specs.Grants.{granted, underPrevious, newKey, underCurrent, grantedBy};
+ghost use Rattle.acceptance.specs.Grants.{grantedBy};
+ghost use Rattle.acceptance.specs.Steps.{granted, underPrevious, newKey, underCurrent};
 
 // What acceptance grants: the code, the customer's record, the key to enclose, how many keys were made, the seed afterwards.
 pub struct Granted {
@@ -51,8 +52,8 @@ pub fn holds_stamp(c: customer::Customer, stamp: u64) -> bool
 
 // Whether a stamp's date is too old today, where e is the earliest date that is not. A day's number depends on six digits only.
 fn is_old(s: u64, e: calendar::Date, today: calendar::Date, holidays: &[u32]) -> bool
-    requires { ⌜ e .yymmdd ≡ earliestGood (now holidays) (today .yymmdd) ⌝ }
-    ensures { λ r. ⌜ r ≡ stampOld (now (holidays .entry)) (today .yymmdd) s ⌝ }
+    requires { ⌜ e ≡ earliestGood (now holidays) today ⌝ }
+    ensures { λ r. ⌜ r ≡ stampOld (now (holidays .entry)) today s ⌝ }
 {
     let date = calendar::Date {
         yymmdd: (s / 1000000000 % 1000000) as u32,
@@ -67,8 +68,8 @@ fn is_old(s: u64, e: calendar::Date, today: calendar::Date, holidays: &[u32]) ->
 
 // The stamps that are not too old, in their order, from the front, with their one-time keys.
 fn keep_live(c: customer::Customer, today: calendar::Date, holidays: &[u32]) -> Live
-    ensures counted { λ r. ⌜ (r .count ≤ 64) × (r .count ≡ length (liveStamps (now (holidays .entry)) (today .yymmdd) c)) × (r .count ≡ length (liveOnce (now (holidays .entry)) (today .yymmdd) c)) ⌝ }
-    ensures placed { λ r. ⌜ (r .stamps ≡ inPlaces (liveStamps (now (holidays .entry)) (today .yymmdd) c)) × (r .once ≡ inPlaces (liveOnce (now (holidays .entry)) (today .yymmdd) c)) ⌝ }
+    ensures counted { λ r. ⌜ (r .count ≤ 64) × (r .count ≡ length (liveStamps (now (holidays .entry)) today c)) × (r .count ≡ length (liveOnce (now (holidays .entry)) today c)) ⌝ }
+    ensures placed { λ r. ⌜ (r .stamps ≡ inPlaces (liveStamps (now (holidays .entry)) today c)) × (r .once ≡ inPlaces (liveOnce (now (holidays .entry)) today c)) ⌝ }
 {
     let e = today.earliest_good(holidays);
     let held = places(c.count);
@@ -96,7 +97,7 @@ fn keep_live(c: customer::Customer, today: calendar::Date, holidays: &[u32]) -> 
 
 // How many stamps of the customer are not too old.
 pub fn live_count(c: customer::Customer, today: calendar::Date, holidays: &[u32]) -> u32
-    ensures { λ r. ⌜ r ≡ length (liveStamps (now (holidays .entry)) (today .yymmdd) c) ⌝ }
+    ensures { λ r. ⌜ r ≡ length (liveStamps (now (holidays .entry)) today c) ⌝ }
 {
     let l = keep_live(c, today, holidays);
     l.count
@@ -109,7 +110,7 @@ pub fn is_once_used(
     holidays: &[u32],
     key: u64,
 ) -> bool
-    ensures { λ r. ⌜ r ≡ onceUsed (now (holidays .entry)) (today .yymmdd) c key ⌝ }
+    ensures { λ r. ⌜ r ≡ onceUsed (now (holidays .entry)) today c key ⌝ }
 {
     if key == 0 {
         return false;
@@ -138,7 +139,7 @@ pub fn with_stamp(
     stamp: u64,
     once: u64,
 ) -> customer::Customer
-    ensures { λ r. ⌜ r ≡ withStamp (now (holidays .entry)) (today .yymmdd) c stamp once ⌝ }
+    ensures { λ r. ⌜ r ≡ withStamp (now (holidays .entry)) today c stamp once ⌝ }
 {
     let l = keep_live(c, today, holidays);
     let count = l.count;
@@ -203,7 +204,7 @@ fn new_key(
     clock: u64,
     today: calendar::Date,
 ) -> Granted
-    ensures { λ r. ⌜ r ≡ newKey c maker clock (today .yymmdd) ⌝ }
+    ensures { λ r. ⌜ r ≡ newKey c maker clock today ⌝ }
 {
     let mut seed = maker.seed;
     let key = keys::take_key(maker.key, &mut seed, clock);
@@ -226,7 +227,7 @@ fn under_current(
     today: calendar::Date,
     request: u32,
 ) -> Granted
-    ensures { λ r. ⌜ r ≡ underCurrent c maker clock (today .yymmdd) request ⌝ }
+    ensures { λ r. ⌜ r ≡ underCurrent c maker clock today request ⌝ }
 {
     let none = changeover::Key::Missing;
     if request == 0 {
@@ -261,7 +262,7 @@ pub fn grant(
     generation: u32,
     request: u32,
 ) -> Granted
-    ensures { λ r. ⌜ r ≡ grantedBy c maker clock (today .yymmdd) generation request ⌝ }
+    ensures { λ r. ⌜ r ≡ grantedBy c maker clock today generation request ⌝ }
 {
     let working = c.working;
     if working.generation == generation {

@@ -5,7 +5,7 @@ use mathlib.Core.Bool.{Bool, true, false}
 use mathlib.Core.List.{List}
 use lib.ListN.{replicate}
 use Rattle.ground.proofs.Choices.{skips}
-use Rattle.text.proofs.Lists.{picked}
+use Rattle.ground.proofs.Bools.{picked}
 use Rattle.customer.specs.declared.Customer.{Customer}
 use Rattle.customer.specs.declared.Settings.{Settings}
 use Rattle.changeover.specs.Held.{heldKey}
@@ -18,7 +18,7 @@ use Rattle.verdict.specs.declared.Outcome.{Outcome}
 use Rattle.notice.specs.Codes.{codeIn, codes}
 use Rattle.reply.specs.declared.Answering.{Answering}
 use Rattle.answers.specs.Answers.{bareAnswer, fullAnswer, verdictAnswer}
-use Rattle.answers.specs.declared.Opening.{Opening}
+use Rattle.opening.specs.declared.Opening.{Opening}
 
 module _ (t : Table) (o : Opening) (pte : Bool) {s : Settings} where
   pub bare-made : (code field : ℕ) → s ≡ t .settings

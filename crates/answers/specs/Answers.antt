@@ -14,7 +14,7 @@ use Rattle.message.specs.Fields.{senderOf, transportGenerationOf, workingGenera
 use Rattle.verdict.specs.declared.Outcome.{Outcome}
 use Rattle.notice.specs.Codes.{codeIn, codes}
 use Rattle.reply.specs.declared.Answering.{Answering}
-use Rattle.answers.specs.declared.Opening.{Opening}
+use Rattle.opening.specs.declared.Opening.{Opening}
 
 -- the bare form: it needs the bank's settings alone
 unfoldable pub bareAnswer : Table → Opening → Bool → ℕ → ℕ → Answering

@@ -3,16 +3,14 @@ ghost use mathlib.Core.Path.{_≡_};
 ghost use Rattle.table.specs.Decode.{tableOf};
 ghost use Rattle.answers.specs.Answers.{bareAnswer, fullAnswer, verdictAnswer};
 
-// What is given at opening: today, the time hhmmss, the data type and the clock value.
-pub struct Opening {
-    pub today: calendar::Date,
-    pub time: u32,
-    pub kind: u32,
-    pub clock: u64,
-}
-
 // A bare reply.
-pub fn bare_answer(t: &[u8], o: Opening, pte: bool, code: u32, field: u32) -> reply::Answering
+pub fn bare_answer(
+    t: &[u8],
+    o: opening::Opening,
+    pte: bool,
+    code: u32,
+    field: u32,
+) -> reply::Answering
     ensures { λ r. ⌜ r ≡ bareAnswer (tableOf (now (t .entry))) o pte code field ⌝ }
 {
     let settings = table::settings(t);
@@ -37,7 +35,7 @@ pub fn bare_answer(t: &[u8], o: Opening, pte: bool, code: u32, field: u32) -> re
 // A full reply, on the table as the verdict leaves it.
 fn full_answer(
     t: &[u8],
-    o: Opening,
+    o: opening::Opening,
     pte: bool,
     out: verdict::Outcome,
     m: [u8; 161],
@@ -74,7 +72,7 @@ fn full_answer(
 // The reply to a verdict: the bare form needs no keys.
 pub fn verdict_answer(
     t: &[u8],
-    o: Opening,
+    o: opening::Opening,
     pte: bool,
     out: verdict::Outcome,
     m: [u8; 161],

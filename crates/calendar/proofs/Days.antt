@@ -10,10 +10,13 @@ use borrow.Author.Tests.{ltb-true, ltb-false, lt-ltb, le-ltb}
 use lib.Dec.{ltb}
 use Rattle.ground.specs.Choice.{both, either, fails, one, pick, between}
 use Rattle.ground.proofs.Choices.{left, right, join, between-true, between-in}
-use Rattle.calendar.specs.Dates.{yearOf, monthOf, dayOf, placeInOrder, leap, daysIn, daysInYear, realDate, earlier, yearsBefore, monthsBefore, dayNumber, inYear, fromYear, dateOf, later}
+use Rattle.calendar.specs.Dates.{yearOf, monthOf, dayOf, placeInOrder, leap, daysIn, daysInYear, realDate, earlier, yearsBefore}
+use Rattle.calendar.specs.Dates.{monthsBefore, dayNumber, inYear, fromYear, dateOf, isBefore, later}
 use Rattle.calendar.specs.declared.CalendarDays.{CalendarDays}
+use Rattle.calendar.specs.declared.Date.{Date}
 use Rattle.calendar.proofs.Walk.{below, found, lands, past, mono}
-use Rattle.calendar.proofs.Months.{days-in-le, beforeYear, month-step, year-step, twelve, from-zero, from-walk, monthDay, yearDate, years-le, months-le, no-years, no-months, from-one}
+use Rattle.calendar.proofs.Months.{days-in-le, beforeYear, month-step, year-step, twelve, from-zero, from-walk, monthDay, yearDate}
+use Rattle.calendar.proofs.Months.{years-le, months-le, no-years, no-months, from-one}
 
 -- the date d and the number k are those of day e, from 0 on, of month m of the year y
 pub record Day (d k : ℕ) : Type 0 where
@@ -29,13 +32,21 @@ pub record Day (d k : ℕ) : Type 0 where
   pub number : k ≡ beforeYear y + monthsBefore y m + e
 
 -- the date, taken apart, and its place in order
-parts : (d k : ℕ) (a : Day d k) → (yearOf d ≡ a .y) × (monthOf d ≡ a .m) × (dayOf d ≡ a .e + 1) × (d < 1000000) × (placeInOrder d ≡ 10000 * (a .y - 1980) + monthDay (a .m) (a .e))
-parts d k a = let l : daysIn (a .y) (a .m) ≤ 32 = days-in-le (a .y) (a .m) in omega (arith, a .date, a .from, a .to, a .first, a .last, a .within)
+parts : (d k : ℕ) (a : Day d k) → (yearOf d ≡ a .y) × (monthOf d ≡ a .m) × (dayOf d ≡ a .e + 1) × (d < 1000000)
+    × (placeInOrder d ≡ 10000 * (a .y - 1980) + monthDay (a .m) (a .e))
+parts d k a = let l : daysIn (a .y) (a .m) ≤ 32 = days-in-le (a .y) (a .m) in
+    omega (arith, a .date, a .from, a .to, a .first, a .last, a .within)
 
 -- a day of a year lies before the year's end
 inside : (y m e : ℕ) → m ≤ 12 → e < daysIn y m → monthsBefore y m + e < daysInYear y
 inside y m e h l =
-    omega (arith, month-step y m (omega arith), mono (daysIn y) (monthsBefore y) 0 (month-step y) (m + 1) 13 (omega arith) (omega arith), twelve y)
+    omega (
+      arith,
+      month-step y m (omega arith),
+      mono (daysIn y) (monthsBefore y) 0 (month-step y) (m + 1) 13 (omega arith)
+          (omega arith),
+      twelve y,
+    )
 
 century : beforeYear 2080 ≡ 36525
 unfolding yearsBefore leap both either fails one
@@ -43,7 +54,15 @@ century = refl
 
 pub number-lt : (d k : ℕ) → Day d k → k < 36525
 number-lt d k a =
-    omega (arith, a .number, inside (a .y) (a .m) (a .e) (a .last) (a .within), year-step (a .y) (a .from), mono daysInYear beforeYear 1980 year-step (a .y + 1) 2080 (omega (arith, a .from)) (omega (arith, a .to)), century)
+    omega (
+      arith,
+      a .number,
+      inside (a .y) (a .m) (a .e) (a .last) (a .within),
+      year-step (a .y) (a .from),
+      mono daysInYear beforeYear
+          1980 year-step (a .y + 1) 2080 (omega (arith, a .from)) (omega (arith, a .to)),
+      century,
+    )
 
 pub number-of : (d k : ℕ) → Day d k → dayNumber d ≡ k
 unfolding dayNumber
@@ -65,10 +84,12 @@ date-of d k a =
     let t : monthsBefore (a .y) (a .m + 1) ≡ monthsBefore (a .y) (a .m) + daysIn (a .y) (a .m) = month-step (a .y) (a .m) (omega arith) in
     let l : k - beforeYear (a .y) - monthsBefore (a .y) (a .m) ≡ a .e = omega (arith, a .number) in
     from-walk 100 1980 k
-    ∙ lands daysInYear beforeYear 1980 year-step yearDate 791231 (a .y) k 2080 no-years (a .from) (a .to) (omega (arith, a .number)) (omega (arith, a .number))
+    ∙ lands daysInYear beforeYear 1980 year-step yearDate 791231 (a .y) k 2080 no-years (a .from) (a .to) (omega (arith, a .number))
+    (omega (arith, a .number))
     ∙ ap (λ (x : ℕ). 10000 * (a .y % 100) + x)
     (from-zero (a .y) (k - beforeYear (a .y))
-    ∙ lands (daysIn (a .y)) (monthsBefore (a .y)) 0 (month-step (a .y)) monthDay 1231 (a .m) (k - beforeYear (a .y)) 13 (no-months (a .y)) (omega arith) (omega (arith, a .last)) (omega (arith, a .number)) (omega (arith, a .number, a .within))
+    ∙ lands (daysIn (a .y)) (monthsBefore (a .y)) 0 (month-step (a .y)) monthDay 1231 (a .m) (k - beforeYear (a .y)) 13
+    (no-months (a .y)) (omega arith) (omega (arith, a .last)) (omega (arith, a .number)) (omega (arith, a .number, a .within))
     ∙ ap (monthDay (a .m)) l)
     ∙ sym (a .date)
 
@@ -116,7 +137,8 @@ day-in : (y k : ℕ) → 1980 ≤ y → y < 2080 → beforeYear y ≤ k → k < 
 day-in y k f t p q =
     let i : k - beforeYear y < monthsBefore y 13 = omega (arith, twelve y, year-step y f) in
     let g = found (daysIn y) (monthsBefore y) 0 (month-step y) 13 (k - beforeYear y) (omega (arith, no-months y)) i in
-    day-of y (g .0) (k - beforeYear y - monthsBefore y (g .0)) k f t (omega (arith, g)) (omega (arith, month-step y (g .0) (omega arith), g)) (omega (arith, g))
+    day-of y (g .0) (k - beforeYear y - monthsBefore y (g .0)) k f t (omega (arith, g))
+    (omega (arith, month-step y (g .0) (omega arith), g)) (omega (arith, g))
 
 pub day-date : (k : ℕ) → k < 36525 → Day (dateOf k) k
 day-date k h =
@@ -161,7 +183,8 @@ date-real k = real-of (dateOf k) (min k 36524) (day-at k)
 -- ---- order
 
 -- of two days in one year the one that comes first has the lower number
-in-year-order : (y m e m′ e′ : ℕ) → e < daysIn y m → m ≤ 12 → e′ < daysIn y m′ → monthDay m e < monthDay m′ e′ → monthsBefore y m + e < monthsBefore y m′ + e′
+in-year-order : (y m e m′ e′ : ℕ) → e < daysIn y m → m ≤ 12 → e′ < daysIn y m′ → monthDay m e < monthDay m′ e′
+    → monthsBefore y m + e < monthsBefore y m′ + e′
 in-year-order y m e m′ e′ w l w′ h =
     let b : daysIn y m ≤ 32 = days-in-le y m in
     let b′ : daysIn y m′ ≤ 32 = days-in-le y m′ in
@@ -225,18 +248,20 @@ not-earlier a b r s h = ltb-false (dayNumber a) (dayNumber b) (sym (earlier-days
 
 -- ---- calendar days later
 
-pub later-mono : (d : ℕ) (n m : CalendarDays) → n .0 ≤ m .0 → earlier (later d m) (later d n) ≡ false
+pub later-mono : (d : Date) (n m : CalendarDays) → n .0 ≤ m .0 → isBefore (later d m) (later d n) ≡ false
 unfolding later
-later-mono d n m h = dates-rise (dayNumber d + n .0) (dayNumber d + m .0) (omega arith)
+later-mono d n m h = dates-rise (dayNumber (d .yymmdd) + n .0) (dayNumber (d .yymmdd) + m .0) (omega arith)
 
-pub later-after : (d : ℕ) (n : CalendarDays) → realDate d ≡ true → earlier (later d n) d ≡ false
+pub later-after : (d : Date) (n : CalendarDays) → realDate (d .yymmdd) ≡ true → isBefore (later d n) d ≡ false
 unfolding later
-later-after d n r = rw (date-of-day d r) at (dates-rise (dayNumber d) (dayNumber d + n .0) (omega arith))
+later-after d n r =
+    rw (date-of-day (d .yymmdd) r) at (dates-rise (dayNumber (d .yymmdd)) (dayNumber (d .yymmdd) + n .0) (omega arith))
 
-pub later-keeps : (d e : ℕ) (n : CalendarDays) → realDate d ≡ true → realDate e ≡ true → earlier e d ≡ false
-    → earlier (later e n) (later d n) ≡ false
+pub later-keeps : (d e : Date) (n : CalendarDays) → realDate (d .yymmdd) ≡ true → realDate (e .yymmdd) ≡ true
+    → isBefore e d ≡ false → isBefore (later e n) (later d n) ≡ false
 unfolding later
-later-keeps d e n r s h = dates-rise (dayNumber d + n .0) (dayNumber e + n .0) (omega (arith, not-earlier e d s r h))
+later-keeps d e n r s h =
+    dates-rise (dayNumber (d .yymmdd) + n .0) (dayNumber (e .yymmdd) + n .0) (omega (arith, not-earlier (e .yymmdd) (d .yymmdd) s r h))
 
 -- ---- the number of any date, real or not
 

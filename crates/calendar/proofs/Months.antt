@@ -9,21 +9,17 @@ use native.Mathlib.Nat.{zero-add}
 use native.Mathlib.Numerals.{add-one}
 use native.Mathlib.Omega.{arith}
 use borrow.Author.Tests.{leb-true, eqb-true, ne-eqb, lt-ltb, le-ltb}
-use lib.Dec.{T, leb, eqb, ltb}
+use lib.Dec.{leb, eqb, ltb}
 use lib.ListN.{getD, List·getD-eq-default}
 use Rattle.ground.specs.Choice.{both, either, fails, pick, one}
 use Rattle.ground.specs.Lists.{member}
 use Rattle.ground.proofs.Choices.{picks, skips}
 use Rattle.ground.proofs.Table.{at}
+use Rattle.ground.proofs.Bools.{one-le, tested}
 use Rattle.calendar.specs.Dates.{leap, lengths, daysIn, daysInYear, yearsBefore, monthsBefore, inYear, fromYear}
 use Rattle.calendar.proofs.Walk.{below, walk, most}
 
 -- ---- lengths
-
--- where a test passes
-pub holds : (t : Bool) → T t → t ≡ true
-holds true h = refl
-holds false h = absurd h
 
 short : ℕ → ℕ → Bool
 short m n = leb n 31
@@ -31,7 +27,7 @@ short m n = leb n 31
 length-le : (m : ℕ) → getD lengths m 0 ≤ 31
 unfolding both short
 length-le m =
-    ⊎-elim (λ h. leb-true _ 31 (holds _ (at short lengths tt m h)))
+    ⊎-elim (λ h. leb-true _ 31 (tested _ (at short lengths tt m h)))
     (λ h. rw (List·getD-eq-default lengths 0 h) (omega arith))
     (below m 13)
 
@@ -45,7 +41,7 @@ long y m q z f t =
     rw (ne-eqb m 2 f)
     (ap (λ (x : ℕ). x + 0)
     (eqb-true (getD lengths m 0) 31
-    (holds (eqb (getD lengths m 0) 31)
+    (tested (eqb (getD lengths m 0) 31)
     (rw (
       ne-eqb 0 m (λ e. z (sym e)),
       ne-eqb 2 m (λ e. f (sym e)),
@@ -73,11 +69,6 @@ alone false = refl
 pub by-four : (y : ℕ) → (y % 100 ≡ 0 → ⊥) → (y % 400 ≡ 0 → ⊥) → leap y ≡ eqb (y % 4) 0
 unfolding leap fails
 by-four y p q = rw (ne-eqb (y % 100) 0 p, ne-eqb (y % 400) 0 q) (alone (eqb (y % 4) 0))
-
-pub one-le : (t : Bool) → one t ≤ 1
-unfolding one
-one-le true = omega arith
-one-le false = omega arith
 
 pub days-in-le : (y m : ℕ) → daysIn y m ≤ 32
 unfolding daysIn
@@ -148,7 +139,8 @@ in-walk y (suc n) m k = ap (pick (ltb k (daysIn y m)) (monthDay m k)) (in-walk y
 -- no day lies in month 0
 pub from-zero : (y k : ℕ) → inYear y 1 k 12 ≡ walk (daysIn y) monthDay 1231 0 k 13
 unfolding inYear
-from-zero y k = sym (skips _ _ _ (rw (no-month y) (le-ltb k 0 (omega arith))) ∙ ap (λ (x : ℕ). inYear y 1 x 12) (rw (no-month y) (omega arith))) ∙ in-walk y 13 0 k
+from-zero y k = sym (skips _ _ _ (rw (no-month y) (le-ltb k 0 (omega arith)))
+    ∙ ap (λ (x : ℕ). inYear y 1 x 12) (rw (no-month y) (omega arith))) ∙ in-walk y 13 0 k
 
 abbrev pub yearDate : ℕ → ℕ → ℕ
 yearDate y k = 10000 * (y % 100) + inYear y 1 k 12

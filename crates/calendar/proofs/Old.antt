@@ -10,8 +10,9 @@ use borrow.Author.Tests.{ltb-true, ltb-false, lt-ltb, le-ltb}
 use lib.Dec.{ltb}
 use Rattle.ground.specs.Choice.{one, pick}
 use Rattle.ground.proofs.Choices.{picks, skips}
-use Rattle.calendar.specs.Dates.{realDate, earlier, dayNumber, dateOf}
+use Rattle.calendar.specs.Dates.{realDate, isBefore, dayNumber, dateOf}
 use Rattle.calendar.specs.Banking.{bankingDay, bankingAmong, bankingDaysAfter, tooOld, firstGood, earliestGood}
+use Rattle.calendar.specs.declared.Date.{Date}
 use Rattle.calendar.proofs.Walk.{below}
 use Rattle.calendar.proofs.Days.{day-number-lt, day-of-date, date-real, earlier-days, not-earlier}
 
@@ -56,7 +57,8 @@ module _ (hs : List ℕ) where
 
   -- what the search from k on finds: a day that is not too old, with only days before it that are
   finds : (t n k : ℕ) → k + n ≡ t
-      → (upTo t (firstGood hs t k n) ≤ 5) × (k ≤ firstGood hs t k n) × (firstGood hs t k n ≤ t) × ((j : ℕ) → k ≤ j → j < firstGood hs t k n → 5 < upTo t j)
+      → (upTo t (firstGood hs t k n) ≤ 5) × (k ≤ firstGood hs t k n) × (firstGood hs t k n ≤ t)
+      × ((j : ℕ) → k ≤ j → j < firstGood hs t k n → 5 < upTo t j)
   unfolding firstGood
   finds t zero k h =
       (omega (arith, up-none t k (omega arith)), omega arith, omega arith, λ j p q. absurd (omega arith))
@@ -64,8 +66,13 @@ module _ (hs : List ℕ) where
       ⊎-elim (λ l.
       let f = finds t n (k + 1) (omega arith) in
       let s : pick (ltb 5 (upTo t k)) (firstGood hs t (k + 1) n) k ≡ firstGood hs t (k + 1) n = picks _ _ _ (lt-ltb 5 (upTo t k) l) in
-      rw s
-      (f .0, omega (arith, f .1), f .2, λ j p q. ⊎-elim (λ i. f .3 j (omega arith) q) (λ i. let e : j ≡ k = omega arith in rw e l) (below k j)))
+      rw s (
+        f .0,
+        omega (arith, f .1),
+        f .2,
+        λ j p q. ⊎-elim (λ i. f .3 j (omega arith) q) (λ i. let e : j ≡ k = omega arith in rw e l)
+            (below k j),
+      ))
       (λ l.
       let s : pick (ltb 5 (upTo t k)) (firstGood hs t (k + 1) n) k ≡ k = skips _ _ _ (le-ltb 5 (upTo t k) l) in
       rw s (l, omega arith, omega arith, λ j p q. absurd (omega arith)))
@@ -98,36 +105,41 @@ module _ (hs : List ℕ) where
   first-zero t p =
       let b : first t ≤ 0 = ltb-false 0 (first t) (sym (splits t 0) ∙ le-ltb 5 (upTo t 0) p) in omega arith
 
-  pub old-by-days : (s t : ℕ) → tooOld hs s t ≡ ltb (dayNumber s) (firstGood hs (dayNumber t) 0 (dayNumber t))
+  pub old-by-days : (s t : Date)
+      → tooOld hs s t ≡ ltb (dayNumber (s .yymmdd)) (firstGood hs (dayNumber (t .yymmdd)) 0 (dayNumber (t .yymmdd)))
   unfolding tooOld bankingDaysAfter
-  old-by-days s t = splits (dayNumber t) (dayNumber s)
+  old-by-days s t = splits (dayNumber (t .yymmdd)) (dayNumber (s .yymmdd))
 
 -- ---- stamps that are too old
 
+up-more : (hs : List ℕ) (s t u : ℕ) → t ≤ u → ltb 5 (upTo hs t s) ≡ true → ltb 5 (upTo hs u s) ≡ true
+up-more hs s t u l o =
+    let a : t - s + (u - s - (t - s)) ≡ u - s = omega arith in
+    lt-ltb 5 (upTo hs u s)
+    (omega (arith, ltb-true 5 (upTo hs t s) o, rw a at (among-more hs (t - s) s (u - s - (t - s)))))
+
 -- what is too old stays too old
-pub too-old-stays : (hs : List ℕ) (s t u : ℕ) → realDate t ≡ true → realDate u ≡ true → earlier u t ≡ false → tooOld hs s t ≡ true → tooOld hs s u ≡ true
+pub too-old-stays : (hs : List ℕ) (s t u : Date) → realDate (t .yymmdd) ≡ true → realDate (u .yymmdd) ≡ true
+    → isBefore u t ≡ false → tooOld hs s t ≡ true → tooOld hs s u ≡ true
 unfolding tooOld bankingDaysAfter
 too-old-stays hs s t u r q h o =
-    let l : dayNumber t ≤ dayNumber u = not-earlier u t q r h in
-    let a : dayNumber t - dayNumber s + (dayNumber u - dayNumber s - (dayNumber t - dayNumber s)) ≡ dayNumber u - dayNumber s = omega arith in
-    lt-ltb 5 (upTo hs (dayNumber u) (dayNumber s))
-    (omega (
-      arith,
-      ltb-true 5 (upTo hs (dayNumber t) (dayNumber s)) o,
-      rw a at (among-more hs (dayNumber t - dayNumber s) (dayNumber s) (dayNumber u - dayNumber s - (dayNumber t - dayNumber s))),
-    ))
+    up-more hs (dayNumber (s .yymmdd)) (dayNumber (t .yymmdd)) (dayNumber (u .yymmdd)) (not-earlier (u .yymmdd) (t .yymmdd) q r h) o
 
 -- a stamp of today or of a day after today is not too old
-pub ahead-not-old : (hs : List ℕ) (s t : ℕ) → realDate s ≡ true → realDate t ≡ true → earlier s t ≡ false → tooOld hs s t ≡ false
+pub ahead-not-old : (hs : List ℕ) (s t : Date) → realDate (s .yymmdd) ≡ true → realDate (t .yymmdd) ≡ true
+    → isBefore s t ≡ false → tooOld hs s t ≡ false
 unfolding tooOld bankingDaysAfter
 ahead-not-old hs s t r q h =
-    le-ltb 5 (upTo hs (dayNumber t) (dayNumber s)) (omega (arith, up-none hs (dayNumber t) (dayNumber s) (not-earlier s t r q h)))
+    let j : ℕ = dayNumber (s .yymmdd) in
+    let k : ℕ = dayNumber (t .yymmdd) in
+    le-ltb 5 (upTo hs k j) (omega (arith, up-none hs k j (not-earlier (s .yymmdd) (t .yymmdd) r q h)))
 
 -- one date answers for every stamp
-pub too-old-earliest : (hs : List ℕ) (s t : ℕ) → realDate s ≡ true → realDate t ≡ true → tooOld hs s t ≡ earlier s (earliestGood hs t)
+pub too-old-earliest : (hs : List ℕ) (s t : Date) → realDate (s .yymmdd) ≡ true → realDate (t .yymmdd) ≡ true
+    → tooOld hs s t ≡ isBefore s (earliestGood hs t)
 unfolding earliestGood
 too-old-earliest hs s t r q =
-    let k = first hs (dayNumber t) in
-    let l : k < 36525 = omega (arith, first-le hs (dayNumber t), day-number-lt t q) in
+    let k = first hs (dayNumber (t .yymmdd)) in
+    let l : k < 36525 = omega (arith, first-le hs (dayNumber (t .yymmdd)), day-number-lt (t .yymmdd) q) in
     old-by-days hs s t
-    ∙ sym (earlier-days s (dateOf k) r (date-real k) ∙ ap (ltb (dayNumber s)) (day-of-date k l))
+    ∙ sym (earlier-days (s .yymmdd) (dateOf k) r (date-real k) ∙ ap (ltb (dayNumber (s .yymmdd))) (day-of-date k l))

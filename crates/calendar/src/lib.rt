@@ -2,7 +2,8 @@
 ghost use mathlib.Core.Path.{_≡_};
 ghost use Prim.Native.Nat.{_+_, _<_};
 ghost use Rattle.ground.specs.Lists.{member};
-ghost use Rattle.calendar.specs.Dates.{leap, daysIn, daysInYear, realDate, realTime, placeInOrder, earlier, yearsBefore, monthsBefore, dayNumber, inYear, dateOf, later};
+ghost use Rattle.calendar.specs.Dates.{leap, daysIn, daysInYear, realDate, realTime, placeInOrder, isBefore, yearsBefore};
+ghost use Rattle.calendar.specs.Dates.{monthsBefore, dayNumber, inYear, dateOf, later};
 ghost use Rattle.calendar.specs.Banking.{weekday, bankingDay, moreThan, tooOld, firstGood, earliestGood};
 
 // A date as it is written, yymmdd.
@@ -214,7 +215,7 @@ impl Date {
 
     // Whether this date comes before the other, 991231 before 000101.
     pub fn before(self, other: Date) -> bool
-        ensures { λ r. ⌜ r ≡ earlier (self .yymmdd) (other .yymmdd) ⌝ }
+        ensures { λ r. ⌜ r ≡ isBefore self other ⌝ }
     {
         place_in_order(self.yymmdd) < place_in_order(other.yymmdd)
     }
@@ -241,14 +242,14 @@ impl Date {
 
     // The date so many calendar days later, 791231 at the latest.
     pub fn plus(self, days: CalendarDays) -> Date
-        ensures { λ r. ⌜ r .yymmdd ≡ later (self .yymmdd) days ⌝ }
+        ensures { λ r. ⌜ r ≡ later self days ⌝ }
     {
         date_of(self.day_number() + days.0 as u64)
     }
 
     // Whether more than five banking days lie after this date, up to today.
     pub fn is_too_old(self, today: Date, holidays: &[u32]) -> bool
-        ensures { λ r. ⌜ r ≡ tooOld (now (holidays .entry)) (self .yymmdd) (today .yymmdd) ⌝ }
+        ensures { λ r. ⌜ r ≡ tooOld (now (holidays .entry)) self today ⌝ }
     {
         let t = today.day_number();
         let mut k = self.day_number();
@@ -267,7 +268,7 @@ impl Date {
 
     // The earliest date that is not too old on this one.
     pub fn earliest_good(self, holidays: &[u32]) -> Date
-        ensures { λ r. ⌜ r .yymmdd ≡ earliestGood (now (holidays .entry)) (self .yymmdd) ⌝ }
+        ensures { λ r. ⌜ r ≡ earliestGood (now (holidays .entry)) self ⌝ }
     {
         date_of(first_good(self.day_number(), holidays))
     }

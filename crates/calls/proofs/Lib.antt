@@ -1,1 +1,4 @@
--- Laws, in the order in which they build on each other.
+-- Laws that belong to no one function.
+pub mod Refusing
+pub mod Opening
+pub mod Serving

@@ -6,12 +6,13 @@ use mathlib.Core.List.{List, [], _∷_, _++_}
 use lib.Dec.{eqb}
 use lib.ListN.{length, take}
 use Rattle.ground.specs.Choice.{pick}
-use Rattle.register.specs.Calls.{settingUpAnswer, settingUpLeaves, addingAnswer, addingLeaves, enteringAnswer, enteringLeaves, orderingAnswer, orderingLeaves}
-use Rattle.register.specs.declared.Setting.{Setting}
-use Rattle.register.specs.declared.Adding.{Adding}
-use Rattle.register.specs.declared.Entering.{Entering}
-use Rattle.register.specs.declared.Ordering.{Ordering}
-use Rattle.answers.specs.declared.Opening.{Opening}
+use Rattle.table_calls.specs.Calls.{settingUpAnswer, settingUpLeaves, addingAnswer, addingLeaves, enteringAnswer, enteringLeaves}
+use Rattle.table_calls.specs.Calls.{orderingAnswer, orderingLeaves}
+use Rattle.table_calls.specs.declared.Setting.{Setting}
+use Rattle.table_calls.specs.declared.Adding.{Adding}
+use Rattle.table_calls.specs.declared.Entering.{Entering}
+use Rattle.table_calls.specs.declared.Ordering.{Ordering}
+use Rattle.opening.specs.declared.Opening.{Opening}
 use Rattle.session.specs.Ranges.{Fits}
 use Rattle.session.specs.declared.Session.{Session}
 use Rattle.calls.specs.Reading.{Done, openingAnswer, openingLeaves, readDone, endDone}

@@ -9,11 +9,11 @@ use Rattle.ground.specs.Choice.{either, fails, pick, between}
 use Rattle.calendar.specs.Dates.{realTime}
 use Rattle.table.specs.Table.{withDay}
 use Rattle.table.specs.Decode.{tableOf}
-use Rattle.conditions.specs.Refusals.{Refusal, refusal, lowest, noTable, badDay}
-use Rattle.register.specs.Calls.{leaves}
+use Rattle.refusals.specs.Refusals.{Refusal, refusal, lowest, noTable, badDay}
+use Rattle.table_calls.specs.Calls.{leaves}
 use Rattle.reply.specs.Reply.{replied, writtenLength}
-use Rattle.answers.specs.declared.Opening.{Opening}
-use Rattle.session.specs.Events.{Turn, placed, nothing, fileEnded, isDue}
+use Rattle.opening.specs.declared.Opening.{Opening}
+use Rattle.session.specs.Events.{onward, Turn, placed, nothing, fileEnded, isDue}
 use Rattle.session.specs.Machine.{Scan, scanned, lastEnded, opened, unopened}
 use Rattle.session.specs.Ranges.{isClosed, readRefused, endRefused}
 use Rattle.session.specs.declared.Place.the-variants.{Closed}
@@ -28,7 +28,7 @@ use Rattle.calls.specs.declared.Answer.{Answer}
 unfoldable pub openingRefusals : List ℕ → Opening → List Refusal
 openingRefusals b o =
     refusal 2 (noTable b) ∷
-    refusal 4 (either (badDay (tableOf b) (o .today .yymmdd)) (fails (realTime (o .time)))) ∷
+    refusal 4 (either (badDay (tableOf b) (o .today)) (fails (realTime (o .time)))) ∷
     refusal 11 (fails (between 1 16 (o .kind))) ∷ []
 
 unfoldable pub openingAnswer : List ℕ → Opening → ℕ
@@ -50,10 +50,10 @@ pub record Done : Type 0 where
 
 -- refused: table, session and reply bytes stay, and nothing is taken
 unfoldable pub refusedBy : ℕ → Session → List ℕ → List ℕ → Done
-refusedBy n s w room =
+refusedBy n s b room =
     record {
       answer = record { refusal = n; taken = 0; length = 0; finished = false; session = s };
-      table = w;
+      table = b;
       room = room;
     }
 
@@ -76,42 +76,30 @@ servedBy x s taken finished room =
 
 -- 1: reply room under 317 bytes
 unfoldable pub readingRefusals : Session → List ℕ → List ℕ → List Refusal
-readingRefusals s w room =
+readingRefusals s b room =
     refusal 1 (ltb (length room) 317) ∷
-    refusal 2 (noTable w) ∷
-    refusal 3 (readRefused s (tableOf w .day)) ∷ []
+    refusal 2 (noTable b) ∷
+    refusal 3 (readRefused s (tableOf b .day)) ∷ []
 
 unfoldable pub endingRefusals : Session → List ℕ → List ℕ → List Refusal
-endingRefusals s w room =
+endingRefusals s b room =
     refusal 1 (ltb (length room) 317) ∷
-    refusal 2 (noTable w) ∷
-    refusal 3 (endRefused s (tableOf w .day)) ∷ []
+    refusal 2 (noTable b) ∷
+    refusal 3 (endRefused s (tableOf b .day)) ∷ []
 
 -- a read takes bytes through the LF that settles a reply, or all; a call that closes the file says finished
 unfoldable pub readServed : Scan → List ℕ → Done
 readServed x room =
     servedBy (x .turn) (x .turn .out .session) (x .taken) (isClosed (x .turn .out .session .place)) room
 
-unfoldable pub readDone : Session → List ℕ → List ℕ → List ℕ → Done
-readDone s w input room =
-    pick (eqb (lowest (readingRefusals s w room)) 0) (readServed (scanned s w input) room)
-    (refusedBy (lowest (readingRefusals s w room)) s w room)
+unfoldable pub readDone : (s : Session) (b input room : List ℕ) → Done
+readDone s b input room =
+    pick (eqb (lowest (readingRefusals s b room)) 0) (readServed (scanned s b input) room)
+    (refusedBy (lowest (readingRefusals s b room)) s b room)
 
 -- an end was signalled, and another reply is due
 unfoldable pub awaits : Session → Session
-awaits s =
-    record {
-      opened = s .opened;
-      ended = true;
-      told = s .told;
-      opening = s .opening;
-      made = s .made;
-      sender = s .sender;
-      line = s .line;
-      place = s .place;
-      gathered = s .gathered;
-      batch = s .batch;
-    }
+awaits s = onward s true (s .told) (s .made) (s .sender) (s .line) (s .place) (s .gathered) (s .batch)
 
 unfoldable pub finishes : Session → Session
 finishes s = placed (awaits s) Closed (s .told) nothing
@@ -125,8 +113,8 @@ endServed x y room =
     (servedBy y (finishes (y .out .session)) 0 true room)
 
 unfoldable pub endDone : Session → List ℕ → List ℕ → Done
-endDone s w room =
-    let x : Turn = lastEnded s w in
+endDone s b room =
+    let x : Turn = lastEnded s b in
     let y : Turn = fileEnded (x .out .session) (x .table) in
-    pick (eqb (lowest (endingRefusals s w room)) 0) (endServed x y room)
-    (refusedBy (lowest (endingRefusals s w room)) s w room)
+    pick (eqb (lowest (endingRefusals s b room)) 0) (endServed x y room)
+    (refusedBy (lowest (endingRefusals s b room)) s b room)

@@ -6,8 +6,9 @@ use Prim.Native.Nat.{ℕ, _+_, _≤_}
 use native.Mathlib.Omega.{arith}
 use borrow.Author.Tests.{le-leb, eq-eqb, ne-eqb, ltb-false}
 use lib.Dec.{eqb, ltb, leb}
-use Rattle.ground.specs.Choice.{both, either, fails, pick}
+use Rattle.ground.specs.Choice.{either, pick}
 use Rattle.ground.proofs.Choices.{left, right, join, picks, skips}
+use Rattle.ground.proofs.Bools.{fails-of, under}
 use Rattle.calendar.specs.Dates.{realDate, later}
 use Rattle.calendar.specs.declared.Date.{Date}
 use Rattle.calendar.specs.declared.CalendarDays.{CalendarDays}
@@ -27,22 +28,6 @@ use Rattle.changeover.specs.declared.Key.the-variants.{Missing, Is}
 
 -- ---- tests turned round
 
-fails-of : (a : Bool) → a ≡ false → fails a ≡ true
-unfolding fails
-fails-of true p = sym p
-fails-of false p = refl
-
-pub denied : {r a : Bool} → r ≡ a → r ≡ true → fails a ≡ false
-unfolding fails
-denied e p = ap fails (sym e ∙ p)
-
-pub granted : {r a : Bool} → r ≡ a → r ≡ false → fails a ≡ true
-granted e p = fails-of _ (sym e ∙ p)
-
--- the rest of a chain of tests, replaced
-pub under : (a b d : Bool) → (b ≡ true → d ≡ true) → both a b ≡ true → both a d ≡ true
-under a b d f e = join a d (left a b e) (f (right a b e))
-
 -- ---- the parts of sound keys
 
 module _ (k : KeyPair) (s : soundKeys k ≡ true) where
@@ -61,7 +46,7 @@ module _ (k : KeyPair) (s : soundKeys k ≡ true) where
 -- ---- a new key
 
 -- the keys after a change whose last day is given
-abbrev pub changedUntil : KeyPair → ℕ → ℕ → Date → ℕ → KeyPair
+abbrev pub changedUntil : (old : KeyPair) (generation key : ℕ) (today last : Date) → KeyPair
 changedUntil old generation key today last =
     record {
       generation = generation;
@@ -72,21 +57,21 @@ changedUntil old generation key today last =
             generation = old .generation;
             key = old .key;
             first = today;
-            last = record { yymmdd = last };
+            last = last;
           });
     }
 
-pub until : (old : KeyPair) (generation key : ℕ) (today : Date) (last : ℕ) (days : CalendarDays) → last ≡ later (today .yymmdd) days
-    → changedUntil old generation key today last ≡ changed old generation key (today .yymmdd) days
+pub until : (old : KeyPair) (generation key : ℕ) (today last : Date) (days : CalendarDays) → last ≡ later today days
+    → changedUntil old generation key today last ≡ changed old generation key today days
 unfolding changed
 until old generation key today last days e = ap (changedUntil old generation key today) e
 
-later-real : (d : ℕ) (n : CalendarDays) → realDate (later d n) ≡ true
+later-real : (d : Date) (n : CalendarDays) → realDate (later d n .yymmdd) ≡ true
 unfolding later
 later-real d n = date-real _
 
-pub changed-sound : (old : KeyPair) (generation key today : ℕ) (days : CalendarDays) → soundKeys old ≡ true
-    → generation ≡ nextGeneration (old .generation) → oddParity key ≡ true → realDate today ≡ true
+pub changed-sound : (old : KeyPair) (generation key : ℕ) (today : Date) (days : CalendarDays) → soundKeys old ≡ true
+    → generation ≡ nextGeneration (old .generation) → oddParity key ≡ true → realDate (today .yymmdd) ≡ true
     → soundKeys (changed old generation key today days) ≡ true
 unfolding changed soundKeys soundPrevious
 changed-sound old generation key today days s g o t =
@@ -115,13 +100,13 @@ module _ (c : Customer) (s : soundCustomer c ≡ true) where
   with-keys-sound transport working p q =
       under _ _ _ (under _ _ _ (under _ _ _ (λ e. join _ _ p (join _ _ q (right _ _ (right _ _ e)))))) s
 
-  pub with-transport-sound : (generation key today : ℕ) → generation ≡ nextGeneration (c .transport .generation)
-      → oddParity key ≡ true → realDate today ≡ true → soundCustomer (withTransport c generation key today) ≡ true
+  pub with-transport-sound : (generation key : ℕ) (today : Date) → generation ≡ nextGeneration (c .transport .generation)
+      → oddParity key ≡ true → realDate (today .yymmdd) ≡ true → soundCustomer (withTransport c generation key today) ≡ true
   unfolding withTransport
   with-transport-sound generation key today g o t =
       with-keys-sound _ _ (changed-sound (c .transport) generation key today (c .length) transport-sound g o t) working-sound
 
-  pub with-working-sound : (key today : ℕ) → oddParity key ≡ true → realDate today ≡ true
+  pub with-working-sound : (key : ℕ) (today : Date) → oddParity key ≡ true → realDate (today .yymmdd) ≡ true
       → soundCustomer (withWorking c key today) ≡ true
   unfolding withWorking
   with-working-sound key today o t =
@@ -160,12 +145,12 @@ unfolding either pick
 pick-held true b y other f e = (y, refl)
 pick-held false b y other f e = f e
 
-previous-held : (p : Previous) (g d : ℕ) → previousGood p g d ≡ true → (x : ℕ) × (previousNamed p g ≡ Is x)
+previous-held : (p : Previous) (g : ℕ) (d : Date) → previousGood p g d ≡ true → (x : ℕ) × (previousNamed p g ≡ Is x)
 unfolding previousGood previousNamed
 previous-held Nothing g d e = absurd (let z : _≡_ {A = ℕ} 0 1 = cc in omega arith)
 previous-held (Held p) g d e = (p .key, picks _ _ _ (left _ _ e))
 
-pub good-held : (k : KeyPair) (g d : ℕ) → goodFor k g d ≡ true → (x : ℕ) × (heldKey k g ≡ Is x)
+pub good-held : (k : KeyPair) (g : ℕ) (d : Date) → goodFor k g d ≡ true → (x : ℕ) × (heldKey k g ≡ Is x)
 unfolding goodFor heldKey
 good-held k g d e = pick-held _ _ _ _ (previous-held (k .previous) g d) e
 
@@ -179,7 +164,7 @@ next-differs g e = by (ltb g 9) refl
     by true h = omega (arith, sym (picks (ltb g 9) (g + 1) 1 h) ∙ e)
     by false h = omega (arith, sym (skips (ltb g 9) (g + 1) 1 h) ∙ e, ltb-false g 9 h)
 
-pub after-change : (old : KeyPair) (key today : ℕ) (days : CalendarDays)
+pub after-change : (old : KeyPair) (key : ℕ) (today : Date) (days : CalendarDays)
     → heldKey (changed old (nextGeneration (old .generation)) key today days) (old .generation) ≡ Is (old .key)
 unfolding changed heldKey previousNamed
 after-change old key today days =

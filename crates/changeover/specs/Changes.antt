@@ -3,14 +3,14 @@
 use Prim.Native.Nat.{ℕ}
 use Rattle.calendar.specs.Dates.{later}
 use Rattle.calendar.specs.declared.CalendarDays.{CalendarDays}
+use Rattle.calendar.specs.declared.Date.{Date}
 use Rattle.keys.specs.Keys.{nextGeneration}
-use Rattle.customer.specs.declared.Previous.{Previous}
 use Rattle.customer.specs.declared.Previous.the-variants.{Nothing, Held}
 use Rattle.customer.specs.declared.KeyPair.{KeyPair}
 use Rattle.customer.specs.declared.Customer.{Customer}
 
 -- a new key starts today; the one before it is the previous one, from today to today plus the length in calendar days
-unfoldable pub changed : KeyPair → ℕ → ℕ → ℕ → CalendarDays → KeyPair
+unfoldable pub changed : (old : KeyPair) (generation key : ℕ) (today : Date) (days : CalendarDays) → KeyPair
 changed old generation key today days =
     record {
       generation = generation;
@@ -20,13 +20,13 @@ changed old generation key today days =
           (record {
             generation = old .generation;
             key = old .key;
-            first = record { yymmdd = today };
-            last = record { yymmdd = later today days };
+            first = today;
+            last = later today days;
           });
     }
 
 -- the customer with other keys, and all else as it was
-unfoldable pub withKeys : Customer → KeyPair → KeyPair → Customer
+unfoldable pub withKeys : Customer → (transport working : KeyPair) → Customer
 withKeys c transport working =
     record {
       who = c .who;
@@ -42,11 +42,11 @@ withKeys c transport working =
     }
 
 -- the customer with a new transport key
-unfoldable pub withTransport : Customer → ℕ → ℕ → ℕ → Customer
+unfoldable pub withTransport : Customer → (generation key : ℕ) (today : Date) → Customer
 withTransport c generation key today = withKeys c (changed (c .transport) generation key today (c .length)) (c .working)
 
 -- the customer with a new working key, of the next generation
-unfoldable pub withWorking : Customer → ℕ → ℕ → Customer
+unfoldable pub withWorking : Customer → (key : ℕ) (today : Date) → Customer
 withWorking c key today =
     withKeys c (c .transport)
     (changed (c .working) (nextGeneration (c .working .generation)) key today (c .length))

@@ -38,7 +38,7 @@ pub fn held(k: customer::KeyPair, generation: u32) -> Key
 
 // Whether a key that is held has that generation, and the date lies within its changeover.
 fn is_within(c: customer::Changeover, generation: u32, date: calendar::Date) -> bool
-    ensures { λ r. ⌜ r ≡ previousGood (Held c) generation (date .yymmdd) ⌝ }
+    ensures { λ r. ⌜ r ≡ previousGood (Held c) generation date ⌝ }
 {
     if c.generation != generation {
         return false;
@@ -53,7 +53,7 @@ fn is_within(c: customer::Changeover, generation: u32, date: calendar::Date) -> 
 
 // The same of what may be held.
 fn is_previous_good(p: customer::Previous, generation: u32, date: calendar::Date) -> bool
-    ensures { λ r. ⌜ r ≡ previousGood p generation (date .yymmdd) ⌝ }
+    ensures { λ r. ⌜ r ≡ previousGood p generation date ⌝ }
 {
     match p {
         customer::Previous::Nothing => false,
@@ -63,7 +63,7 @@ fn is_previous_good(p: customer::Previous, generation: u32, date: calendar::Date
 
 // Whether a generation is good for a stamp of that date: the current one always, the previous one within its changeover.
 pub fn is_good_for(k: customer::KeyPair, generation: u32, date: calendar::Date) -> bool
-    ensures { λ r. ⌜ r ≡ goodFor k generation (date .yymmdd) ⌝ }
+    ensures { λ r. ⌜ r ≡ goodFor k generation date ⌝ }
 {
     if k.generation == generation {
         return true;
@@ -74,7 +74,7 @@ pub fn is_good_for(k: customer::KeyPair, generation: u32, date: calendar::Date) 
 
 // Whether a previous key is held whose last day isn't past.
 pub fn is_changing(p: customer::Previous, today: calendar::Date) -> bool
-    ensures { λ r. ⌜ r ≡ changing p (today .yymmdd) ⌝ }
+    ensures { λ r. ⌜ r ≡ changing p today ⌝ }
 {
     match p {
         customer::Previous::Nothing => false,
@@ -93,7 +93,7 @@ pub fn change(
     today: calendar::Date,
     days: calendar::CalendarDays,
 ) -> customer::KeyPair
-    ensures { λ r. ⌜ r ≡ changed old generation key (today .yymmdd) days ⌝ }
+    ensures { λ r. ⌜ r ≡ changed old generation key today days ⌝ }
 {
     let last = today.plus(days);
     let before = customer::Changeover {
@@ -143,7 +143,7 @@ pub fn with_transport(
     key: u64,
     today: calendar::Date,
 ) -> customer::Customer
-    ensures { λ r. ⌜ r ≡ withTransport c generation key (today .yymmdd) ⌝ }
+    ensures { λ r. ⌜ r ≡ withTransport c generation key today ⌝ }
 {
     let old = c.transport;
     let days = c.length;
@@ -154,7 +154,7 @@ pub fn with_transport(
 
 // The customer with a new working key, of the next generation.
 pub fn with_working(c: customer::Customer, key: u64, today: calendar::Date) -> customer::Customer
-    ensures { λ r. ⌜ r ≡ withWorking c key (today .yymmdd) ⌝ }
+    ensures { λ r. ⌜ r ≡ withWorking c key today ⌝ }
 {
     let transport = c.transport;
     let old = c.working;

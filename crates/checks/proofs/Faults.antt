@@ -10,7 +10,8 @@ use borrow.Author.Tests.{lt-ltb}
 use lib.Dec.{eqb, lit<}
 use Rattle.ground.specs.Choice.{both, fails}
 use Rattle.ground.proofs.Choices.{decides}
-use Rattle.customer.proofs.Chain.{turned}
+use Rattle.ground.proofs.Bools.{turned}
+use Rattle.calendar.specs.declared.Date.{Date}
 use Rattle.customer.specs.declared.Customer.{Customer}
 use Rattle.table.specs.Table.{Table}
 use Rattle.table.specs.Named.{named}
@@ -22,7 +23,8 @@ use Rattle.message.specs.declared.About.the-variants.{Answered, Closing}
 use Rattle.message.specs.declared.Fault.{Fault}
 use Rattle.message.specs.declared.Collected.{Collected}
 use Rattle.message.proofs.Order.{Joins}
-use Rattle.checks.specs.Checks.{typeAllowed, partyChecks, stampChecks, roomChecks, esiKeyChecks, typeChecks, pairChecks, keyChecks, esiChecks, frameChecks}
+use Rattle.checks.specs.Checks.{typeAllowed, partyChecks, stampChecks, roomChecks, esiKeyChecks, typeChecks, pairChecks, keyChecks}
+use Rattle.checks.specs.Checks.{esiChecks, frameChecks}
 use Rattle.checks.specs.declared.Frame.{Frame}
 use Rattle.checks.proofs.Parts.{esiParts, frameParts, esi-parts, frame-parts}
 
@@ -49,7 +51,7 @@ type-none types n h l =
 
 -- ---- the two orders
 
-pub esi-first : (t : Table) (today : ℕ) (m : Collected) (c : Customer) {r r₁ r₂ r₃ f p s k o : Fault}
+pub esi-first : (t : Table) (today : Date) (m : Collected) (c : Customer) {r r₁ r₂ r₃ f p s k o : Fault}
     → c ≡ named t (senderOf (m .text))
     → Joins r f r₁ → Joins r₁ p r₂ → Joins r₂ s r₃ → Joins r₃ k o
     → f ≡ firstFailing (formChecks (formOf Esi) Answered m) → p ≡ firstFailing (partyChecks t (m .text))
@@ -67,7 +69,7 @@ esi-first t today m c e a₀ a₁ a₂ a₃ f p s k o =
     ∙ ap (λ (x : Customer). firstFailing (esiParts t x today m)) e
     ∙ ap firstFailing (sym (esi-parts t today m))
 
-pub frame-first : (t : Table) (today kind : ℕ) (f : Frame) (c : Customer) {r r₁ r₂ r₃ r₄ r₅ r₆ u v p d b s k o : Fault}
+pub frame-first : (t : Table) (today : Date) (kind : ℕ) (f : Frame) (c : Customer) {r r₁ r₂ r₃ r₄ r₅ r₆ u v p d b s k o : Fault}
     → c ≡ named t (senderOf (f .suo .text))
     → Joins r u r₁ → Joins r₁ v r₂ → Joins r₂ p r₃ → Joins r₃ d r₄ → Joins r₄ b r₅ → Joins r₅ s r₆ → Joins r₆ k o
     → u ≡ firstFailing (formChecks (formOf Suo) Answered (f .suo)) → v ≡ firstFailing (formChecks (formOf Var) Closing (f .var))

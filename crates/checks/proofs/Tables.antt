@@ -26,14 +26,20 @@ few-holidays b = by (eqb (length b) tableSize) refl
   where
     by : (t : Bool) → eqb (length b) tableSize ≡ t → length (tableOf b .holidays) ≤ 200
     by true p =
-        omega (arith, ap (λ (t : Table). length (t .holidays)) (table-sized b (eqb-true _ _ p)), dates-length holidaysStart (holidayCount b) b)
+        omega (
+          arith,
+          ap (λ (t : Table). length (t .holidays)) (table-sized b (eqb-true _ _ p)),
+          dates-length holidaysStart
+              (holidayCount b) b,
+        )
     by false p = omega (arith, ap (λ (t : Table). length (t .holidays)) (table-other b (eqb-false _ _ p)))
 
 module _ (b : List ℕ) (h : Holidays) (e : h ≡ holidaysOf (tableOf b)) where
   pub lent-room : h .count ≤ length (h .dates)
   unfolding holidaysOf
   lent-room =
-      let l : length (tableOf b .holidays ++ replicate 200 0) ≡ length (tableOf b .holidays) + 200 = length-append (tableOf b .holidays) (replicate 200 0) in
+      let l : length (tableOf b .holidays ++ replicate 200 0) ≡ length (tableOf b .holidays) + 200 = length-append (tableOf b .holidays)
+      (replicate 200 0) in
       omega (
         arith,
         ap (λ (x : Holidays). x .count) e,

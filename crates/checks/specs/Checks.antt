@@ -7,8 +7,9 @@ use lib.Dec.{eqb, ltb, leb}
 use lib.ListN.{length}
 use Rattle.ground.specs.Choice.{both, either, fails}
 use Rattle.ground.specs.Lists.{same}
-use Rattle.calendar.specs.Dates.{earlier}
+use Rattle.calendar.specs.Dates.{dated, isBefore}
 use Rattle.calendar.specs.Banking.{tooOld}
+use Rattle.calendar.specs.declared.Date.{Date}
 use Rattle.keys.specs.Parity.{oddParity}
 use Rattle.digest.specs.Mac.{checksumOf}
 use Rattle.digest.specs.declared.Answer.{Answer}
@@ -20,26 +21,27 @@ use Rattle.changeover.specs.declared.Key.the-variants.{Missing, Is as Key·Is}
 use Rattle.acceptance.specs.Stamps.{holdsStamp, liveStamps, onceUsed}
 use Rattle.table.specs.Table.{Table, placeOf, isUnknown}
 use Rattle.table.specs.Named.{named}
-use Rattle.message.specs.Layout.{fieldText}
+use Rattle.message.specs.Layout.{field, noField, fieldText}
 use Rattle.message.specs.Order.{Check}
 use Rattle.message.specs.Rules.{formOf, formChecks}
-use Rattle.message.specs.Fields.{receiverOf, senderOf, stampTextOf, stampOf, dateOfStamp, versionOf, transportGenerationOf, workingGenerationOf, digestFieldOf, checksumFieldOf}
+use Rattle.message.specs.Fields.{receiverOf, senderOf, stampTextOf, stampOf, dateOfStamp, versionOf, transportGenerationOf}
+use Rattle.message.specs.Fields.{workingGenerationOf, digestFieldOf, checksumFieldOf}
 use Rattle.message.specs.declared.Kind.the-variants.{Esi, Suo, Var}
 use Rattle.message.specs.declared.About.the-variants.{Answered, Closing}
 use Rattle.message.specs.declared.Collected.{Collected}
 use Rattle.checks.specs.declared.Frame.{Frame}
 
 -- a check that names no field, and one that names a field of the message that is answered (an ESI, a frame's SUO)
-abbrev pub check : ℕ → Bool → Check
-check c f = record { code = c; field = 0; about = Answered; failed = f }
+abbrev pub check : (code : ℕ) (failed : Bool) → Check
+check c f = record { code = c; field = noField; about = Answered; failed = f }
 
-abbrev pub checkField : ℕ → ℕ → Bool → Check
+abbrev pub checkField : (code number : ℕ) (failed : Bool) → Check
 checkField c n f = record { code = c; field = n; about = Answered; failed = f }
 
 -- ---- what single checks ask
 
 -- data type n, given at opening, is among the customer's: bit n - 1 of the types; there is no type 0
-unfoldable pub typeAllowed : ℕ → ℕ → Bool
+unfoldable pub typeAllowed : (types dataType : ℕ) → Bool
 typeAllowed types n = both (ltb 0 n) (eqb (types / 2 ^ (n - 1) % 2) 1)
 
 -- the checksum of a message under a working key is not the one it carries; without a key none is
@@ -71,14 +73,14 @@ partyChecks t m =
     check 1035 (fails (named t (senderOf m) .agreed)) ∷ []
 
 -- 1015 more than five banking days lie after the stamp's date and up to today; 1016 date after today; 1018 the customer holds that stamp
-unfoldable pub stampChecks : Table → Customer → ℕ → List ℕ → List Check
+unfoldable pub stampChecks : Table → Customer → (today : Date) (m : List ℕ) → List Check
 stampChecks t c today m =
-    check 1015 (tooOld (t .holidays) (dateOfStamp m) today) ∷
-    check 1016 (earlier today (dateOfStamp m)) ∷
+    check 1015 (tooOld (t .holidays) (dated (dateOfStamp m)) today) ∷
+    check 1016 (isBefore today (dated (dateOfStamp m))) ∷
     check 1018 (holdsStamp c (stampOf m)) ∷ []
 
 -- 1034: 64 accepted stamps not too old are held
-unfoldable pub roomChecks : Table → Customer → ℕ → List Check
+unfoldable pub roomChecks : Table → Customer → (today : Date) → List Check
 roomChecks t c today = check 1034 (leb 64 (length (liveStamps (t .holidays) today c))) ∷ []
 
 -- ---- the ESI
@@ -86,11 +88,11 @@ roomChecks t c today = check 1034 (leb 64 (length (liveStamps (t .holidays) toda
 -- 1013 and 1014: a generation neither current, nor previous with the stamp's date within first to last day; 1020 the checksum
 unfoldable pub esiKeyChecks : Customer → List ℕ → List Check
 esiKeyChecks c m =
-    check 1013 (fails (goodFor (c .transport) (transportGenerationOf m) (dateOfStamp m))) ∷
-    check 1014 (fails (goodFor (c .working) (workingGenerationOf m) (dateOfStamp m))) ∷
+    check 1013 (fails (goodFor (c .transport) (transportGenerationOf m) (dated (dateOfStamp m)))) ∷
+    check 1014 (fails (goodFor (c .working) (workingGenerationOf m) (dated (dateOfStamp m)))) ∷
     check 1020 (checksumDiffers (heldKey (c .working) (workingGenerationOf m)) m) ∷ []
 
-unfoldable pub esiChecks : Table → ℕ → Collected → List Check
+unfoldable pub esiChecks : Table → (today : Date) → Collected → List Check
 esiChecks t today m =
     let c : Customer = named t (senderOf (m .text)) in
     formChecks (formOf Esi) Answered m ++
@@ -102,31 +104,31 @@ esiChecks t today m =
 -- ---- the frame
 
 -- 1025: the data type given at opening is not allowed
-unfoldable pub typeChecks : Customer → ℕ → List Check
+unfoldable pub typeChecks : Customer → (dataType : ℕ) → List Check
 typeChecks c dataType = check 1025 (fails (typeAllowed (c .types) dataType)) ∷ []
 
 -- the same field of SUO and VAR
-abbrev pub unequal : ℕ → List ℕ → List ℕ → Check
+abbrev pub unequal : (field : ℕ) (a b : List ℕ) → Check
 unequal n a b = checkField 1026 n (fails (same a b))
 
 -- first unequal of version, receiver, sender, fields 15, 10, 11, 13, 12
-unfoldable pub pairChecks : List ℕ → List ℕ → List Check
+unfoldable pub pairChecks : (suo var : List ℕ) → List Check
 pairChecks suo var =
-    unequal 30 (fieldText 30 suo) (fieldText 30 var) ∷
-    unequal 80 (receiverOf suo) (receiverOf var) ∷
-    unequal 90 (senderOf suo) (senderOf var) ∷
-    unequal 150 (fieldText 150 suo) (fieldText 150 var) ∷
-    unequal 100 (fieldText 100 suo) (fieldText 100 var) ∷
-    unequal 110 (fieldText 110 suo) (fieldText 110 var) ∷
-    unequal 130 (fieldText 130 suo) (fieldText 130 var) ∷
-    unequal 120 (stampTextOf suo) (stampTextOf var) ∷ []
+    unequal (field 3) (fieldText (field 3) suo) (fieldText (field 3) var) ∷
+    unequal (field 8) (receiverOf suo) (receiverOf var) ∷
+    unequal (field 9) (senderOf suo) (senderOf var) ∷
+    unequal (field 15) (fieldText (field 15) suo) (fieldText (field 15) var) ∷
+    unequal (field 10) (fieldText (field 10) suo) (fieldText (field 10) var) ∷
+    unequal (field 11) (fieldText (field 11) suo) (fieldText (field 11) var) ∷
+    unequal (field 13) (fieldText (field 13) suo) (fieldText (field 13) var) ∷
+    unequal (field 12) (stampTextOf suo) (stampTextOf var) ∷ []
 
 -- 1013 also where no such key was held at SUO's end; 1017 an accepted batch of this customer, its stamp not yet too old, had the same
 -- one-time key; 1031 its parity; 1019 also where no characters are left
-unfoldable pub keyChecks : Table → Customer → ℕ → Frame → List Check
+unfoldable pub keyChecks : Table → Customer → (today : Date) → Frame → List Check
 keyChecks t c today f =
     let m : List ℕ = f .suo .text in
-    let date : ℕ = dateOfStamp m in
+    let date : Date = dated (dateOfStamp m) in
     check 1013 (either (isMissing (f .once)) (fails (goodFor (c .transport) (transportGenerationOf m) date))) ∷
     check 1014 (fails (goodFor (c .working) (workingGenerationOf m) date)) ∷
     check 1017 (onceUsed (t .holidays) today c (keyOr0 (f .once))) ∷
@@ -134,7 +136,7 @@ keyChecks t c today f =
     check 1019 (digestDiffers (f .digest) (digestFieldOf (f .var .text))) ∷
     check 1020 (checksumDiffers (heldKey (c .working) (workingGenerationOf m)) (f .var .text)) ∷ []
 
-unfoldable pub frameChecks : Table → ℕ → ℕ → Frame → List Check
+unfoldable pub frameChecks : Table → (today : Date) (dataType : ℕ) → Frame → List Check
 frameChecks t today dataType f =
     let c : Customer = named t (senderOf (f .suo .text)) in
     formChecks (formOf Suo) Answered (f .suo) ++

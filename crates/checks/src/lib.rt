@@ -11,7 +11,8 @@ ghost use Rattle.table.specs.Decode.{tableOf};
 ghost use Rattle.message.specs.Order.{Check, firstFailing};
 ghost use Rattle.message.specs.Rules.{formOf, formChecks};
 ghost use Rattle.message.specs.Fields.{receiverOf, senderOf};
-ghost use Rattle.checks.specs.Checks.{checkField, typeAllowed, checksumDiffers, digestDiffers, isMissing, keyOr0, partyChecks, stampChecks, roomChecks, esiKeyChecks, esiChecks, pairChecks, keyChecks, frameChecks};
+ghost use Rattle.checks.specs.Checks.{checkField, typeAllowed, checksumDiffers, digestDiffers, isMissing, keyOr0, partyChecks};
+ghost use Rattle.checks.specs.Checks.{stampChecks, roomChecks, esiKeyChecks, esiChecks, pairChecks, keyChecks, frameChecks};
 
 // A frame at its VAR's end: the two messages, the one-time key deciphered at the SUO's end, and the digest of the records between.
 pub struct Frame {
@@ -132,7 +133,7 @@ fn is_key_refused(
     generation: u32,
     date: calendar::Date,
 ) -> bool
-    ensures { λ r. ⌜ r ≡ either (isMissing once) (fails (goodFor k generation (date .yymmdd))) ⌝ }
+    ensures { λ r. ⌜ r ≡ either (isMissing once) (fails (goodFor k generation date)) ⌝ }
 {
     match once {
         changeover::Key::Missing => true,
@@ -199,7 +200,7 @@ fn stamp_faults(
     today: calendar::Date,
     m: [u8; 161],
 ) -> message::Fault
-    ensures { λ r. ⌜ ((t : Table) → t .holidays ≡ now (holidays .entry) → r ≡ firstFailing (stampChecks t c (today .yymmdd) m)) ⌝ }
+    ensures { λ r. ⌜ ((t : Table) → t .holidays ≡ now (holidays .entry) → r ≡ firstFailing (stampChecks t c today m)) ⌝ }
 {
     let date = message::date(m);
     let old = fault_if(1015, 0, date.is_too_old(today, holidays));
@@ -210,7 +211,7 @@ fn stamp_faults(
 
 // 1034.
 fn room_faults(holidays: &[u32], c: customer::Customer, today: calendar::Date) -> message::Fault
-    ensures { λ r. ⌜ ((t : Table) → t .holidays ≡ now (holidays .entry) → r ≡ firstFailing (roomChecks t c (today .yymmdd))) ⌝ }
+    ensures { λ r. ⌜ ((t : Table) → t .holidays ≡ now (holidays .entry) → r ≡ firstFailing (roomChecks t c today)) ⌝ }
 {
     fault_if(1034, 0, 64 <= acceptance::live_count(c, today, holidays))
 }
@@ -238,7 +239,7 @@ fn key_faults(
     today: calendar::Date,
     f: Frame,
 ) -> message::Fault
-    ensures { λ r. ⌜ ((t : Table) → t .holidays ≡ now (holidays .entry) → r ≡ firstFailing (keyChecks t c (today .yymmdd) f)) ⌝ }
+    ensures { λ r. ⌜ ((t : Table) → t .holidays ≡ now (holidays .entry) → r ≡ firstFailing (keyChecks t c today f)) ⌝ }
 {
     let suo = f.suo;
     let m = suo.text;
@@ -270,7 +271,7 @@ fn key_faults(
 
 // The first failing check of an ESI.
 pub fn check_esi(t: &[u8], o: Occasion, m: message::Collected) -> message::Fault
-    ensures { λ r. ⌜ r ≡ firstFailing (esiChecks (tableOf (now (t .entry))) (o .today .yymmdd) m) ⌝ }
+    ensures { λ r. ⌜ r ≡ firstFailing (esiChecks (tableOf (now (t .entry))) (o .today) m) ⌝ }
 {
     let text = m.text;
     let today = o.today;
@@ -288,7 +289,7 @@ pub fn check_esi(t: &[u8], o: Occasion, m: message::Collected) -> message::Fault
 
 // The first failing check of a frame.
 pub fn check_frame(t: &[u8], o: Occasion, f: Frame) -> message::Fault
-    ensures { λ r. ⌜ r ≡ firstFailing (frameChecks (tableOf (now (t .entry))) (o .today .yymmdd) (o .kind) f) ⌝ }
+    ensures { λ r. ⌜ r ≡ firstFailing (frameChecks (tableOf (now (t .entry))) (o .today) (o .kind) f) ⌝ }
 {
     let suo = f.suo;
     let text = suo.text;

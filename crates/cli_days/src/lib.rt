@@ -1,9 +1,11 @@
-// The days of a command: a day far past the table's must be meant, since the table can't go back, and a refusal 4 says which of its halves holds.
+// The days of a command: a day far past the table's must be meant, since the table can't go back; a refusal 4 says which of its halves
+// holds, a refusal 12 the last day of the changeover.
+ghost use mathlib.Core.Path.{_≡_};
+ghost use Rattle.cli_days.specs.Far.{isFar};
 use calendar::Date;
-use terminal::options;
-use terminal::say;
-use terminal::status;
-use terminal::status::Status;
+use cli_terminal::options;
+use cli_terminal::say;
+use cli_terminal::status::Status;
 
 fn six_digits(n: u32) -> [u8; 6] {
     let mut six = [0u8; 6];
@@ -14,14 +16,21 @@ fn six_digits(n: u32) -> [u8; 6] {
 // ---- a day far past the table's
 
 // More than 31 days; the first day after the set-up, whose own is 800101, may be any.
-fn is_far(day: Date, today: Date) -> bool {
+fn is_far(day: Date, today: Date) -> bool
+    ensures { λ r. ⌜ r ≡ isFar (day .yymmdd) (today .yymmdd) ⌝ }
+{
     if day.yymmdd == 800101 {
         return false;
     }
     if !today.is_real() {
         return false;
     }
-    std::num::wrapping_add_u64(day.day_number(), 31) < today.day_number()
+    let held = day.day_number();
+    let given = today.day_number();
+    if given < held {
+        return false;
+    }
+    31 < given - held
 }
 
 fn tell_far(day: Date, today: Date) {
@@ -54,13 +63,6 @@ pub fn is_meant(t: &[u8], today: Date) -> bool {
 
 // ---- refusal 4
 
-fn is_said(is_written: bool) -> bool {
-    say::is_said(
-        is_written,
-        b"the call was refused, and the answer can't be written: ",
-    )
-}
-
 // A number that is no date or no time.
 fn unreal(n: u32, what: &[u8]) -> bool {
     let given = six_digits(n);
@@ -91,7 +93,7 @@ pub fn answer(day: Date, today: Date, time: u32, refusal: u32) -> Status {
     if refusal != 4 {
         return say::answer(refusal);
     }
-    status::refused_if(is_said(answer_day(day, today, time)))
+    say::refused_as(answer_day(day, today, time))
 }
 
 // The first of the holidays that isn't a real date.
@@ -112,6 +114,15 @@ pub fn answer_setup(dates: &[u32], refusal: u32) -> Status {
     if refusal != 4 {
         return say::answer(refusal);
     }
-    let is_written = unreal(first_unreal(dates), b", a holiday, isn't a real date\n");
-    status::refused_if(is_said(is_written))
+    say::refused_as(unreal(first_unreal(dates), b", a holiday, isn't a real date\n"))
+}
+
+// ---- refusal 12
+
+// The answer line where a changeover of keys of that kind runs to that day.
+pub fn answer_changeover(kind: &[u8], last: Date) -> Status {
+    let is_written = say::out(b"refused 12: the changeover from the previous ")
+        && say::out(kind)
+        && say::out(b" key is not past; its last day is ");
+    say::refused_as(with_day(is_written, last))
 }

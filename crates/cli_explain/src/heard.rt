@@ -1,9 +1,12 @@
 // The messages that a reply is about, from the session just before it was settled.
+use crate::Settled;
 
-// The message that a fault of form is of; the one that is answered, an ESI or a SUO; the one that closes a frame; how many characters came
-// of the record or message on its way. A message stands in as much room as a reply, so that both are read by the same functions.
+// The message that a fault of form is of, and the line where it begins; the one that is answered, an ESI or a SUO; the one that closes a
+// frame; how many characters came of the record or message on its way. A message stands in as much room as a reply, so that both are read
+// by the same functions.
 pub struct Heard {
     pub faulty: [u8; 237],
+    pub line: u64,
     pub answered: [u8; 237],
     pub closing: [u8; 237],
     pub count: usize,
@@ -43,8 +46,19 @@ fn placed(m: [u8; 161]) -> [u8; 237] {
     out
 }
 
+// The first ESI begins the file; a later one is settled where its first record ends.
+fn esi_line(place: session::Place, at: Settled) -> u64 {
+    match place {
+        session::Place::BeforeEsi => 1,
+        session::Place::Outside => at.line,
+        session::Place::Collecting(_) => 1,
+        session::Place::InData => at.line,
+        session::Place::Closed => at.line,
+    }
+}
+
 // An ESI, or a SUO that no frame was opened with yet, is what was gathered itself.
-pub fn heard_of(s: session::Session, is_esi: bool) -> Heard {
+pub fn heard_of(s: session::Session, is_esi: bool, at: Settled) -> Heard {
     let gathered = s.gathered;
     let last = gathered.text;
     let place = s.place;
@@ -54,15 +68,20 @@ pub fn heard_of(s: session::Session, is_esi: bool) -> Heard {
     let closing = placed(last);
     let mut answered = placed(first);
     let mut faulty = closing;
-    if is_esi || !is_in_frame(place) {
+    let mut line = at.var;
+    if is_esi {
         answered = closing;
-    } else {
-        if !is_sound_suo(suo) {
-            faulty = answered;
-        }
+        line = esi_line(place, at);
+    } else if !is_in_frame(place) {
+        answered = closing;
+        line = at.suo;
+    } else if !is_sound_suo(suo) {
+        faulty = answered;
+        line = at.suo;
     }
     Heard {
         faulty,
+        line,
         answered,
         closing,
         count: gathered.count,

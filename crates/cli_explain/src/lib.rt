@@ -1,4 +1,5 @@
 // Replies in words, for people: a line for each while a file is received, where its messages are at hand, and a file of replies.
+mod facts;
 mod fields;
 mod file;
 mod generations;
@@ -25,10 +26,12 @@ pub struct Count {
     pub batches: u64,
 }
 
-// Where a reply was settled.
+// Where a reply was settled, and the lines where the SUO and the VAR on their way begin.
 pub struct Settled {
     pub line: u64,
     pub byte: u64,
+    pub suo: u64,
+    pub var: u64,
 }
 
 // How a file of replies was told: whole; up to what is no reply, or is cut short; up to a read or a write that failed.
@@ -87,13 +90,6 @@ pub fn tell_count(fd: i32, c: Count) -> bool {
 
 // ---- a reply and its messages
 
-fn is_message(m: [u8; 237]) -> bool {
-    if text::same_bytes(&m[0..5], b">>ESI") {
-        return true;
-    }
-    text::same_bytes(&m[0..5], b">>SUO")
-}
-
 // Identity, qualifier and stamp as far as they came and can be shown.
 fn with_whom(l: Line, s: Sheet, m: [u8; 237], who: usize, key: u64) -> Line {
     if !sheet::is_shown(m, who, std::num::wrapping_add_usize(who, 25)) {
@@ -106,13 +102,29 @@ fn with_whom(l: Line, s: Sheet, m: [u8; 237], who: usize, key: u64) -> Line {
     with_text(named, s, texts::STAMP)
 }
 
-// Those of a full reply are its own, those of a bare one the message's.
+// Whether a reply's code leaves open whether its message is well formed: then the fields may stand elsewhere.
+fn is_formless(r: [u8; 237]) -> bool {
+    match parts::key_of(r) {
+        1010 => true,
+        1011 => true,
+        1023 => true,
+        1024 => true,
+        1032 => true,
+        texts::TOO_LARGE => true,
+        _ => false,
+    }
+}
+
+// Those of a full reply are its own, those of a bare one the message's; where the message may not be well formed the file's ESI is named.
 fn with_customer(l: Line, s: Sheet, r: [u8; 237], m: [u8; 237]) -> Line {
     if !is_bare(r) {
         return with_whom(l, s, r, 35, texts::CUSTOMER);
     }
-    if !is_message(m) {
-        return l;
+    if is_formless(r) {
+        if parts::is_esi(r) {
+            return l;
+        }
+        return with_text(l, s, texts::SENDER);
     }
     if code_of(r) == 1033 {
         return with_whom(l, s, m, 60, texts::IDENTITY);
@@ -120,15 +132,32 @@ fn with_customer(l: Line, s: Sheet, r: [u8; 237], m: [u8; 237]) -> Line {
     with_whom(l, s, m, 60, texts::CUSTOMER)
 }
 
-fn told_sheet(h: Heard, r: [u8; 237], batches: u64, at: Settled, i: usize) -> Sheet {
+// Whom a reply answers: itself, the message, or the ESI's sender.
+fn whom_sheet(r: [u8; 237], batches: u64, m: [u8; 237], sender: [u8; 25]) -> Sheet {
+    if !is_bare(r) {
+        return parts::sheet_of(r, batches, r, 35);
+    }
+    if is_formless(r) {
+        return parts::sheet_of(r, batches, facts::placed(sender), 0);
+    }
+    parts::sheet_of(r, batches, m, 60)
+}
+
+fn told_sheet(
+    h: Heard,
+    sender: [u8; 25],
+    r: [u8; 237],
+    batches: u64,
+    at: Settled,
+    i: usize,
+) -> Sheet {
     let m = h.answered;
-    let mut s = if is_bare(r) {
-        parts::sheet_of(r, batches, m, 60)
-    } else {
-        parts::sheet_of(r, batches, r, 35)
-    };
+    let mut s = whom_sheet(r, batches, m, sender);
     s = sheet::with_number(s, b'l', at.line);
     s = sheet::with_number(s, b'b', at.byte);
+    s = sheet::with_number(s, b'I', at.suo);
+    s = sheet::with_number(s, b'J', h.line);
+    s = sheet::with_number(s, b'K', at.var);
     s = sheet::with_part(s, b't', m, 85, 86, false);
     s = sheet::with_part(s, b'w', m, 86, 87, false);
     fields::with_field(s, h, i)
@@ -140,25 +169,48 @@ fn sender_of(m: [u8; 237]) -> [u8; 25] {
     out
 }
 
-fn told_line(t: &[u8], h: Heard, r: [u8; 237], batches: u64, at: Settled) -> Line {
+// A batch has the lines from its SUO's first to where it was settled.
+fn place_key(r: [u8; 237], at: Settled) -> u64 {
+    if parts::about_of(r) == texts::OF_BATCH {
+        if at.suo != at.line {
+            return texts::LINES;
+        }
+    }
+    texts::PLACE
+}
+
+fn told_line(
+    t: &[u8],
+    after: &[u8],
+    before: session::Session,
+    r: [u8; 237],
+    batches: u64,
+    at: Settled,
+) -> Line {
+    let h = heard::heard_of(before, parts::is_esi(r), at);
     let m = h.answered;
     let faulty = h.faulty;
+    let sender = before.sender;
+    let opening = before.opening;
+    let who = sender_of(m);
     let i = fields::named_in(r);
-    let s = told_sheet(h, r, batches, at, i);
+    let f = facts::of(t, after, who);
+    let s = facts::with_facts(told_sheet(h, sender, r, batches, at, i), f, m, opening.kind);
     let mut l = with_text(texts::no_line(), s, texts::BEGINNING);
     l = with_text(l, s, parts::about_of(r));
-    l = with_text(l, s, texts::PLACE);
-    l = with_text(l, s, fields::key_at_hand(r, faulty, i));
-    l = generations::with_held(l, s, t, sender_of(m), code_of(r));
+    l = with_text(l, s, place_key(r, at));
+    l = with_text(l, s, facts::key_of(f, r, fields::key_at_hand(r, faulty, i)));
+    l = generations::with_held(l, s, t, who, code_of(r));
     l = with_customer(l, s, r, m);
     with_text(l, s, texts::END)
 }
 
-// One reply: the line of the plain listing, then what is known of it. `before` is the session just before the byte, or the end, that
-// settled it; `c` the count before it. False where it can't be written.
+// One reply: the line of the plain listing, then what is known of it. `t` and `after` are the table before and after it, `before` the
+// session just before the byte, or the end, that settled it; `c` the count before it. False where it can't be written.
 pub fn tell(
     fd: i32,
     t: &[u8],
+    after: &[u8],
     before: session::Session,
     reply: &[u8],
     c: Count,
@@ -168,8 +220,7 @@ pub fn tell(
         return false;
     }
     let r = first_of(reply);
-    let h = heard::heard_of(before, parts::is_esi(r));
-    texts::is_written(fd, told_line(t, h, r, c.batches, at))
+    texts::is_written(fd, told_line(t, after, before, r, c.batches, at))
 }
 
 // ---- a file of replies

@@ -48,6 +48,49 @@ pub fn put_all(out: &mut [u8], at: usize, s: &[u8], letters: bool) -> usize {
     end
 }
 
+pub fn put_number(out: &mut [u8], at: usize, n: u64) -> usize {
+    let mut digits = [0u8; 20];
+    let k = io::decimal(n, &mut digits);
+    put_all(out, at, &digits[..k], false)
+}
+
+// A data type, after a comma where it isn't the first.
+fn put_type(out: &mut [u8], at: usize, k: u64, is_first: bool) -> usize {
+    if is_first {
+        return put_number(out, at, k);
+    }
+    let next = put_byte(out, at, b',');
+    put_number(out, next, k)
+}
+
+// A data type, if its bit is the lowest of what is left of the mask.
+fn put_bit(out: &mut [u8], at: usize, rest: u32, k: u64, is_first: bool) -> usize {
+    if rest % 2 == 0 {
+        return at;
+    }
+    put_type(out, at, k, is_first)
+}
+
+// The data types of a mask, in which type k is bit k - 1.
+fn put_listed(out: &mut [u8], at: usize, mask: u32) -> usize {
+    let mut end = at;
+    let mut rest = mask;
+    let mut k: u64 = 1;
+    while k <= 16 {
+        end = put_bit(out, end, rest, k, end == at);
+        rest = rest / 2;
+        k += 1;
+    }
+    end
+}
+
+pub fn put_types(out: &mut [u8], at: usize, mask: u32) -> usize {
+    if mask == 0 {
+        return put_all(out, at, b"none", false);
+    }
+    put_listed(out, at, mask)
+}
+
 // What was received, in quotes.
 pub fn put_quoted(out: &mut [u8], at: usize, s: &[u8]) -> usize {
     let first = put_byte(out, at, b'"');

@@ -1,35 +1,45 @@
 // What is filled into the texts: a sheet of pieces, each of 128 characters, blank where nothing is known. A letter names each, here and in
 // the texts:
-//   a accepted     f field's name   k kind of message   p previous one   u in the SUO
-//   b byte         g held one       l line              q qualifier      v in the VAR
-//   c K or E       h its contents   m number of batch   r stamp's time   w working key
-//   d code         i identity       n notice            s its number     x first day
-//   e refused      j stamp's date   o number of reply   t transport key  y last day
+//   a accepted     f field's name   k kind of message   p previous one   u in the SUO     z enclosed key
+//   b byte         g held one       l line              q qualifier      v in the VAR     A version
+//   c K or E       h its contents   m number of batch   r stamp's time   w working key    B bank's floor
+//   d code         i identity       n notice            s its number     x first day      C receiver's identity, D qualifier
+//   e refused      j stamp's date   o number of reply   t transport key  y last day       E bank's identity, F qualifier
+//   G data type    H types allowed  I SUO's line        J faulty message's line           K VAR's line
 use crate::room::put_all;
+use crate::room::put_number;
 use crate::room::put_quoted;
+use crate::room::put_types;
 use crate::room::trimmed;
 
 pub struct Sheet {
-    pub text: [u8; 3200],
+    pub text: [u8; 4736],
 }
 
 pub fn blank() -> Sheet {
-    Sheet { text: [b' '; 3200] }
+    Sheet { text: [b' '; 4736] }
 }
 
-// Where a piece begins.
+// Where a piece begins: the small letters, then the capitals.
 pub fn place_of(letter: u8) -> usize {
+    if letter < b'A' {
+        return 4736;
+    }
     if letter < b'a' {
-        return 3200;
+        return (letter - b'A') as usize * 128 + 3328;
     }
     (letter - b'a') as usize * 128
 }
 
 pub fn with_number(sheet: Sheet, letter: u8, n: u64) -> Sheet {
     let mut text = sheet.text;
-    let mut digits = [0u8; 20];
-    let k = io::decimal(n, &mut digits);
-    put_all(&mut text, place_of(letter), &digits[..k], false);
+    put_number(&mut text, place_of(letter), n);
+    Sheet { text }
+}
+
+pub fn with_types(sheet: Sheet, letter: u8, mask: u32) -> Sheet {
+    let mut text = sheet.text;
+    put_types(&mut text, place_of(letter), mask);
     Sheet { text }
 }
 

@@ -11,6 +11,10 @@ pub const LATER_ESI: u64 = 2011;
 
 pub const OVER: u64 = 2012;
 
+pub const NEW_KEY: u64 = 2003;
+
+pub const CURRENT_KEY: u64 = 2004;
+
 pub const TOO_LARGE: u64 = 2034;
 
 pub const BEGINNING: u64 = 3001;
@@ -28,6 +32,10 @@ pub const IDENTITY: u64 = 3006;
 pub const STAMP: u64 = 3007;
 
 pub const END: u64 = 3008;
+
+pub const LINES: u64 = 3009;
+
+pub const SENDER: u64 = 3010;
 
 pub const OF_ESI: u64 = 4001;
 
@@ -88,7 +96,7 @@ fn put(out: &mut [u8], at: usize, s: &[u8]) -> usize {
 // A piece without the blanks at its end.
 fn put_piece(out: &mut [u8], at: usize, sheet: &[u8], letter: u8) -> usize {
     let from = place_of(letter);
-    if 3072 < from {
+    if 4608 < from {
         return at;
     }
     let to = from + 128;
@@ -212,20 +220,23 @@ fn with_key(l: Line, sheet: Sheet, key: u64, is_at_hand: bool) -> Line {
         sheet,
         b"a code that this program doesn't give||
 1001 accepted||: nothing to do
-1002 accepted; the previous working key was used, the current one is enclosed||: take the enclosed key into use
+1002 accepted; the previous working key was used, the current one is enclosed|: generation ~z|: take the enclosed key into use
 1003 accepted; a new working key is enclosed (or the current one, where the previous was used)||: take the enclosed key into use
 1004 accepted; no new key, since the customer has no leave to ask for one||: ask the bank for leave, or don't ask for keys
 1005 accepted; no new key, since a changeover still runs||: ask again when it is past
 1036 accepted; the changeover was ended||: use the current key only
-1037 accepted; there was no changeover that could be ended||: nothing to do
-1010 a field's format: |field ~f of the ~k, ~h|the notice names the field (SANOMATUNNUS: the file doesn't begin with an ESI). \
+1037 accepted; no changeover was ended: none runs, or the message itself used the previous key||: use the current key
+1010 a field's format: |field ~f of the ~k in line ~J, ~h|the notice names the field (SANOMATUNNUS: the file doesn't begin with an ESI). \
 Mend the sending program and send anew
-1011 a field's value: |field ~f of the ~k, ~h|the notice names the field. Mend the sending program and send anew
-1012 the version is below the bank's floor||: renew the sending program
+1011 a field's value: |field ~f of the ~k in line ~J, ~h|the notice names the field (SANOMATUNNUS: a second ESI stands in the file, \
+as where two files were joined). Mend the sending program and send anew
+1012 the version is below the bank's floor|: it is ~A, the floor is ~B|: renew the sending program
 1013 the transport key of that generation isn't valid on the stamp's date|: names transport key ~t|: \
-look at the generations with 'show'; take the right key into use
+make the file anew with the current key (the previous one is good for stamps from the new one's first day to the changeover's last, and \
+for none before); the bank sees the generations and their days with 'show'
 1014 the working key of that generation isn't valid on the stamp's date|: names working key ~w|: \
-look at the generations with 'show'; take the right key into use
+make the file anew with the current key (the previous one is good for stamps from the new one's first day to the changeover's last, and \
+for none before); the bank sees the generations and their days with 'show'
 1015 the stamp's date is too old (more than five banking days)||: look at the sender's clock; make the file anew
 1016 the stamp's date is after today||: look at the sender's clock; make the file anew
 1017 the one-time key was used before|: it is held already|: was it sent twice? the first one counts; if not, make the file anew
@@ -234,20 +245,24 @@ look at the generations with 'show'; take the right key into use
 Send it anew; if it comes again, compare check values
 1020 the checksum differs||: the message was changed on its way, or made with another key. \
 Send it anew; if it comes again, compare check values
-1021 the receiver isn't this bank||: the file went to the wrong bank
+1021 the receiver isn't this bank|: it is ~C qualifier ~D, the bank is ~E qualifier ~F|: the file went to the wrong bank
 1023 data without a SUO before it||. The file is damaged or cut short: send it anew
 1024 a batch without its VAR||. The file is damaged or cut short: send it anew
-1025 this data type isn't allowed to the customer||: look at 'types' with 'show'
-1026 SUO and VAR differ in |field ~f: ~u in the SUO, ~v in the VAR|the field that the notice names: mend the sending program
+1025 this data type isn't allowed to the customer|: received as type ~G, allowed: ~H|: look at 'types' with 'show'
+1026 SUO and VAR differ in |field ~f: ~u in the SUO in line ~I, ~v in the VAR in line ~K|the field that the notice names: \
+mend the sending program
 1031 the one-time key's parity is even||: mend the sending program, or another transport key was used
-1032 a message is cut short|: the ~k|. The file is damaged: send it anew
+1032 a message is cut short|: the ~k that begins in line ~J|. The file is damaged: send it anew
 1033 no customer has this identity and qualifier||. Look at both with 'show': the qualifier counts
-1034 64 live stamps are held||: send again on another day, or in fewer files
+1034 64 live stamps are held, one for each accepted message||: send again when stamps have become too old (on the sixth banking day \
+after them), and put more payments into a batch
 1035 the customer is known and has not agreed on PATU||: make the agreement first
+2003 accepted; a new working key is enclosed: generation ~z||
+2004 accepted; the current working key is enclosed, since the previous one was used: generation ~z||
 2010 the file doesn't begin with an ESI but with ~h||
-2011 a field's value: field ~f of the ~k, ~h: an ESI stands at a file's beginning alone||
-2012 a field's format: field ~f of the ~k, ~h: more than blanks follows the message in its last record||
-2034 the file is too large||: send it as several files
+2011 a field's value: field ~f of the ~k in line ~J, ~h: an ESI stands at a file's beginning alone||
+2012 a field's format: field ~f of the ~k in line ~J, ~h: more than blanks follows the message in its last record||
+2034 the file is too large|: more than 4,294,967,295 bytes|: send it as several files
 3001 ~c ~d  ||
 3002 , line ~l, byte ~b: ||
 3003 ; held: ~g||
@@ -256,6 +271,8 @@ Send it anew; if it comes again, compare check values
 3006 . Identity ~i qualifier ~q||
 3007 , stamp ~j ~r ~s||
 3008 ^||
+3009 , lines ~I to ~l, byte ~b: ||
+3010 . The file's ESI is of customer ~i qualifier ~q||
 4001 ESI||
 4002 batch ~m||
 4003 outside||

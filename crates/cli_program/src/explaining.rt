@@ -1,11 +1,11 @@
 // The command explain: replies for people.
 use cli_explain::Told;
-use folder::files;
-use folder::names;
-use terminal::asked;
-use terminal::options;
-use terminal::say;
-use terminal::status::Status;
+use cli_folder::files;
+use cli_folder::names;
+use cli_terminal::asked;
+use cli_terminal::options;
+use cli_terminal::say;
+use cli_terminal::status::Status;
 
 fn of_count(count: cli_explain::Count) -> Status {
     if count.refused == 0 {

@@ -1,24 +1,26 @@
-// The program: a bank's table of customers in a file, and the files that customers send. Thin over the calls: `keeping` has the commands that keep
-// a table, `cli_receive` and `showing` the commands receive and show, `cli_explain` what replies say, `terminal` the words, `folder` the files.
+// The program: a bank's table of customers in a file, and the files that customers send. Thin over the calls: `cli_keep` has the commands
+// that keep
+// a table, `cli_receive` and `cli_show` the commands receive and show, `cli_explain` what replies say, `cli_terminal` the words,
+// `cli_folder` the files.
 ghost use Prim.Native.Nat.{_<_};
 
 mod explaining;
 
-use terminal::asked;
-use terminal::help;
-use terminal::options;
-use terminal::say;
-use terminal::status;
-use terminal::status::Status;
+use cli_terminal::asked;
+use cli_terminal::help;
+use cli_terminal::options;
+use cli_terminal::say;
+use cli_terminal::status;
+use cli_terminal::status::Status;
 
 fn served(command: u32) -> Status {
     match command {
-        1 => keeping::setup(),
-        2 => keeping::add(),
-        3 => keeping::key(),
-        4 => keeping::order(),
+        1 => cli_keep::setup(),
+        2 => cli_keep::add(),
+        3 => cli_keep::key(),
+        4 => cli_keep::order(),
         5 => cli_receive::receive(),
-        6 => showing::show(),
+        6 => cli_show::show(),
         7 => explaining::explain(),
         _ => helped(),
     }
@@ -62,14 +64,15 @@ fn of_words() -> Status {
     if command != 0 {
         return served(command);
     }
-    if options::is_given(b"--version") {
+    if os::arg_count() == 2 && options::is_given(b"--version") {
         return shown(help::version());
     }
     help::tell_names();
     Status::Trouble
 }
 
-// Whether standard input, output and error are open: where one is not, a file of ours would get its number, and what is said would land in it.
+// Whether standard input, output and error are open: where one is not, a file of ours would get its number, and what is said would land in
+// it.
 fn are_open() -> bool {
     let fd = os::open_read(b"/dev/null");
     if fd < 0 {

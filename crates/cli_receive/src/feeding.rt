@@ -2,9 +2,9 @@
 ghost use Prim.Native.Nat.{_≤_};
 use cli_explain::Count;
 use cli_explain::Settled;
-use folder::replies;
+use cli_folder::replies;
+use cli_terminal::say;
 use libc::STDERR_FILENO;
-use terminal::say;
 
 // Where the file stands: going on, closed by a reply, at its end, or stopped by trouble that was told.
 enum State {
@@ -14,10 +14,14 @@ enum State {
     Stopped,
 }
 
-// How far the file was taken, and what was answered; the lines are counted for the explanations alone.
+// How far the file was taken, and what was answered. For the explanations alone: how many lines ended, the line of the last byte, the lines
+// where the last SUO and the last VAR begin.
 struct Passed {
     bytes: u64,
     lines: u64,
+    line: u64,
+    suo: u64,
+    var: u64,
     count: Count,
 }
 
@@ -110,6 +114,9 @@ fn pump(
     let mut passed = Passed {
         bytes: 0,
         lines: 0,
+        line: 1,
+        suo: 0,
+        var: 0,
         count: cli_explain::no_count(),
     };
     let mut turns = u64::MAX;
@@ -241,15 +248,6 @@ fn state_after(finished: bool) -> State {
     State::Going
 }
 
-// The table as it is before a call, for the explanations alone.
-fn table_before(explanations: i32, t: &[u8]) -> [u8; 49152] {
-    let mut before = [0u8; 49152];
-    if 0 <= explanations {
-        text::copy(&mut before, t);
-    }
-    before
-}
-
 // One read call, and its reply if there is one.
 fn step(
     out: i32,
@@ -260,14 +258,109 @@ fn step(
     passed: Passed,
     input: &[u8],
 ) -> Fed {
-    let mut before = table_before(explanations, t);
+    if explanations < 0 {
+        return plain_step(out, replies, t, s, passed, input);
+    }
+    let n = cut_at(input);
+    if input.len() < n {
+        return stopped(s, passed);
+    }
+    explained_step(out, explanations, replies, t, s, passed, &input[0..n])
+}
+
+fn plain_step(
+    out: i32,
+    replies: &[u8],
+    t: &mut [u8],
+    s: session::Session,
+    passed: Passed,
+    input: &[u8],
+) -> Fed {
     let mut room = [0u8; 317];
-    let a = front::read(t, s, input, &mut room);
-    stepped(
+    let a = calls::read(t, s, input, &mut room);
+    let session = a.session;
+    if !is_answered(out, replies, a, &room) {
+        return stopped(session, passed);
+    }
+    let count = passed.count;
+    let after = Passed {
+        bytes: std::num::wrapping_add_u64(passed.bytes, a.taken as u64),
+        lines: 0,
+        line: 1,
+        suo: 0,
+        var: 0,
+        count,
+    };
+    fed_to(state_after(a.finished), a.taken, session, after)
+}
+
+// What a read answered, written.
+fn is_answered(out: i32, replies: &[u8], a: calls::Answer, room: &[u8]) -> bool {
+    if a.refusal != 0 {
+        say::of_file(replies, b"", b"nothing was changed: a read was refused\n");
+        return false;
+    }
+    replies::is_put(out, replies, room, a.length)
+}
+
+// ---- explanations
+
+// Where the input is cut: before the LF of a line that may begin a message, unless it is the first byte. So each record that begins a
+// message ends with the first byte of a part, and the session before it holds its beginning.
+fn cut_at(input: &[u8]) -> usize {
+    let mut is_marked = true;
+    let mut is_new = false;
+    let mut i = 0;
+    while i < input.len() {
+        let b = input[i];
+        if is_cut(b, i, is_marked) {
+            return i;
+        }
+        if is_new {
+            is_marked = b == b'>';
+        }
+        is_new = b == b'\n';
+        i += 1;
+    }
+    i
+}
+
+fn is_cut(b: u8, i: usize, is_marked: bool) -> bool {
+    if b != b'\n' {
+        return false;
+    }
+    if i == 0 {
+        return false;
+    }
+    is_marked
+}
+
+// The table as it is before a call.
+fn table_before(t: &[u8]) -> [u8; 49152] {
+    let mut before = [0u8; 49152];
+    text::copy(&mut before, t);
+    before
+}
+
+// One read call, and its reply explained.
+fn explained_step(
+    out: i32,
+    explanations: i32,
+    replies: &[u8],
+    t: &mut [u8],
+    s: session::Session,
+    passed: Passed,
+    input: &[u8],
+) -> Fed {
+    let mut before = table_before(t);
+    let mut room = [0u8; 317];
+    let a = calls::read(t, s, input, &mut room);
+    explained(
         out,
         explanations,
         replies,
         &mut before,
+        t,
         s,
         passed,
         input,
@@ -276,12 +369,13 @@ fn step(
     )
 }
 
-// What a read answered, written.
-fn stepped(
+// What a read answered, written and explained.
+fn explained(
     out: i32,
     explanations: i32,
     replies: &[u8],
     before: &mut [u8],
+    t: &[u8],
     s: session::Session,
     passed: Passed,
     input: &[u8],
@@ -289,19 +383,19 @@ fn stepped(
     room: &[u8],
 ) -> Fed {
     let session = a.session;
-    if a.refusal != 0 {
-        say::of_file(replies, b"", b"nothing was changed: a read was refused\n");
+    if !is_answered(out, replies, a, room) {
         return stopped(session, passed);
     }
-    if !replies::is_put(out, replies, room, a.length) {
-        return stopped(session, passed);
-    }
+    let marked = marked_by(passed, s, input);
+    let at = at_step(passed, marked, s, input, a.taken);
     if !is_step_explained(
         explanations,
         replies,
         before,
+        t,
         s,
-        passed,
+        marked,
+        at,
         input,
         a.taken,
         room,
@@ -309,11 +403,9 @@ fn stepped(
     ) {
         return stopped(session, passed);
     }
-    let after = passed_by(explanations, passed, input, a.taken, room, a.length);
+    let after = passed_by(marked, input, a.taken, room, a.length);
     fed_to(state_after(a.finished), a.taken, session, after)
 }
-
-// ---- explanations
 
 // How many lines end in some bytes.
 fn lines_in(bytes: &[u8]) -> u64 {
@@ -336,6 +428,14 @@ fn lines_in_first(bytes: &[u8], n: usize) -> u64 {
     lines_in(&bytes[..n])
 }
 
+// The same of all but the last of the first n.
+fn lines_before_last(bytes: &[u8], n: usize) -> u64 {
+    if n == 0 {
+        return 0;
+    }
+    lines_in_first(bytes, n - 1)
+}
+
 fn counted(count: Count, room: &[u8], length: usize) -> Count {
     if length == 0 {
         return count;
@@ -346,64 +446,134 @@ fn counted(count: Count, room: &[u8], length: usize) -> Count {
     cli_explain::counted(count, &room[..length])
 }
 
-// How far the file was taken after a call that took so many bytes of the input.
-fn passed_by(
-    explanations: i32,
-    passed: Passed,
-    input: &[u8],
-    taken: usize,
-    room: &[u8],
-    length: usize,
-) -> Passed {
-    let count = passed.count;
-    let bytes = std::num::wrapping_add_u64(passed.bytes, taken as u64);
-    if explanations < 0 {
-        return Passed {
-            bytes,
-            lines: 0,
-            count,
-        };
+// The line after those that ended before.
+fn line_after(passed: Passed, ended: u64) -> u64 {
+    std::num::wrapping_add_u64(std::num::wrapping_add_u64(passed.lines, ended), 1)
+}
+
+// Whether the record on its way begins a SUO there, or a VAR.
+fn is_suo(place: session::Place, text: [u8; 161]) -> bool {
+    if !text::same_bytes(&text[0..5], b">>SUO") {
+        return false;
     }
-    let lines = lines_in_first(input, taken);
+    match place {
+        session::Place::BeforeEsi => false,
+        session::Place::Outside => true,
+        session::Place::Collecting(_) => false,
+        session::Place::InData => true,
+        session::Place::Closed => false,
+    }
+}
+
+fn is_var(place: session::Place, text: [u8; 161]) -> bool {
+    if !text::same_bytes(&text[0..5], b">>VAR") {
+        return false;
+    }
+    session::is_data(place)
+}
+
+// With the lines where a SUO or a VAR begins, if the record that is about to end begins one.
+fn marked_at_end(passed: Passed, s: session::Session) -> Passed {
+    let place = s.place;
+    let gathered = s.gathered;
+    let text = gathered.text;
+    let count = passed.count;
+    let line = line_after(passed, 0);
+    let suo = if is_suo(place, text) {
+        line
+    } else {
+        passed.suo
+    };
+    let var = if is_var(place, text) {
+        line
+    } else {
+        passed.var
+    };
     Passed {
-        bytes,
-        lines: std::num::wrapping_add_u64(passed.lines, lines),
+        bytes: passed.bytes,
+        lines: passed.lines,
+        line: passed.line,
+        suo,
+        var,
+        count,
+    }
+}
+
+// The same where the input begins with the record's LF.
+fn marked_by(passed: Passed, s: session::Session, input: &[u8]) -> Passed {
+    if input.len() == 0 {
+        return passed;
+    }
+    if input[0] != b'\n' {
+        return passed;
+    }
+    marked_at_end(passed, s)
+}
+
+// How far the file was taken after a call that took so many bytes of the input.
+fn passed_by(marked: Passed, input: &[u8], taken: usize, room: &[u8], length: usize) -> Passed {
+    let count = marked.count;
+    let lines = lines_in_first(input, taken);
+    let line = line_after(marked, lines_before_last(input, taken));
+    Passed {
+        bytes: std::num::wrapping_add_u64(marked.bytes, taken as u64),
+        lines: std::num::wrapping_add_u64(marked.lines, lines),
+        line: if taken == 0 { marked.line } else { line },
+        suo: marked.suo,
+        var: marked.var,
         count: counted(count, room, length),
     }
 }
 
-// Where a reply was settled: in the line after those that ended before, at the last byte that was taken.
-fn settled_at(passed: Passed, ended: u64, taken: u64) -> Settled {
-    let lines = std::num::wrapping_add_u64(passed.lines, ended);
+// A SUO that ends a frame begins the next one: the reply is about the one before it.
+fn suo_answered(passed: Passed, marked: Passed, place: session::Place, is_first: bool) -> u64 {
+    if is_first && session::is_data(place) {
+        return passed.suo;
+    }
+    marked.suo
+}
+
+// Where a reply was settled: at the last byte that was taken.
+fn at_step(
+    passed: Passed,
+    marked: Passed,
+    s: session::Session,
+    input: &[u8],
+    taken: usize,
+) -> Settled {
+    let place = s.place;
     Settled {
-        line: std::num::wrapping_add_u64(lines, 1),
-        byte: std::num::wrapping_add_u64(passed.bytes, taken),
+        line: line_after(passed, lines_before_last(input, taken)),
+        byte: std::num::wrapping_add_u64(passed.bytes, taken as u64),
+        suo: suo_answered(passed, marked, place, taken == 1),
+        var: marked.var,
     }
 }
 
-// Explains a reply, if there is one, by the session just before the byte that settled it: the same read without that byte, on the table as it was.
+// Explains a reply, if there is one, by the session just before the byte that settled it: the same read without that byte, on the table as
+// it was.
 fn is_step_explained(
     explanations: i32,
     replies: &[u8],
     before: &mut [u8],
+    t: &[u8],
     s: session::Session,
-    passed: Passed,
+    marked: Passed,
+    at: Settled,
     input: &[u8],
     taken: usize,
     room: &[u8],
     length: usize,
 ) -> bool {
-    if explanations < 0 || length == 0 {
+    if length == 0 {
         return true;
     }
     if taken == 0 {
         return false;
     }
-    let last = taken - 1;
-    let held = session_before(before, s, input, last);
-    let at = settled_at(passed, lines_in_first(input, last), taken as u64);
+    let held = session_before(before, s, input, taken - 1);
     is_told(
-        is_reply_told(explanations, before, held, passed, room, length, at),
+        is_reply_told(explanations, before, t, held, marked, room, length, at),
         replies,
     )
 }
@@ -414,13 +584,14 @@ fn session_before(t: &mut [u8], s: session::Session, input: &[u8], n: usize) -> 
         return s;
     }
     let mut unused = [0u8; 317];
-    let a = front::read(t, s, &input[..n], &mut unused);
+    let a = calls::read(t, s, &input[..n], &mut unused);
     a.session
 }
 
 // A reply of that length, told.
 fn is_reply_told(
     explanations: i32,
+    before: &[u8],
     t: &[u8],
     s: session::Session,
     passed: Passed,
@@ -432,24 +603,36 @@ fn is_reply_told(
         return false;
     }
     let count = passed.count;
-    cli_explain::tell(explanations, t, s, &room[..length], count, at)
+    cli_explain::tell(explanations, before, t, s, &room[..length], count, at)
+}
+
+// Where a reply was settled that the file's end gives: in the line of its last byte.
+fn at_end(passed: Passed, marked: Passed, s: session::Session) -> Settled {
+    let place = s.place;
+    Settled {
+        line: passed.line,
+        byte: passed.bytes,
+        suo: suo_answered(passed, marked, place, true),
+        var: marked.var,
+    }
 }
 
 fn is_end_explained(
     explanations: i32,
     replies: &[u8],
+    before: &[u8],
     t: &[u8],
     s: session::Session,
-    passed: Passed,
+    marked: Passed,
+    at: Settled,
     room: &[u8],
     length: usize,
 ) -> bool {
     if explanations < 0 || length == 0 {
         return true;
     }
-    let at = settled_at(passed, 0, 0);
     is_told(
-        is_reply_told(explanations, t, s, passed, room, length, at),
+        is_reply_told(explanations, before, t, s, marked, room, length, at),
         replies,
     )
 }
@@ -484,16 +667,18 @@ fn end_step(
     s: session::Session,
     passed: Passed,
 ) -> Fed {
+    let before = table_before(t);
     let mut room = [0u8; 317];
-    let a = front::end(t, s, &mut room);
-    end_stepped(out, explanations, replies, t, s, passed, a, &room)
+    let a = calls::end(t, s, &mut room);
+    end_stepped(out, explanations, replies, &before, t, s, passed, a, &room)
 }
 
-// What an end answered, written.
+// What an end answered, written and, where that is asked for, explained.
 fn end_stepped(
     out: i32,
     explanations: i32,
     replies: &[u8],
+    before: &[u8],
     t: &[u8],
     s: session::Session,
     passed: Passed,
@@ -501,16 +686,24 @@ fn end_stepped(
     room: &[u8],
 ) -> Fed {
     let session = a.session;
-    if a.refusal != 0 {
-        say::of_file(replies, b"", b"nothing was changed: the end was refused\n");
+    if !is_answered(out, replies, a, room) {
         return stopped(session, passed);
     }
-    if !replies::is_put(out, replies, room, a.length) {
+    let marked = marked_at_end(passed, s);
+    let at = at_end(passed, marked, s);
+    if !is_end_explained(
+        explanations,
+        replies,
+        before,
+        t,
+        s,
+        marked,
+        at,
+        room,
+        a.length,
+    ) {
         return stopped(session, passed);
     }
-    if !is_end_explained(explanations, replies, t, s, passed, room, a.length) {
-        return stopped(session, passed);
-    }
-    let after = passed_by(explanations, passed, b"", 0, room, a.length);
+    let after = passed_by(marked, b"", 0, room, a.length);
     fed_to(state_after(a.finished), 0, session, after)
 }

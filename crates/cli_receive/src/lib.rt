@@ -1,20 +1,22 @@
-// The command receive. The order of writes: the replies beside their name, flushed; the table; the replies' name; then the listing. The input is
+// The command receive. The order of writes: the replies beside their name, flushed; the table; the replies' name; then the listing. The
+// input is
 // read in parts and the replies are written as they come, so memory does not grow with the file.
 mod feeding;
 mod listing;
 
 use cli_files::Seen;
-use folder::files;
-use folder::lock;
-use folder::names;
-use folder::replies;
-use folder::run::Run;
-use terminal::asked;
-use terminal::options;
-use terminal::say;
-use terminal::status::Status;
+use cli_folder::files;
+use cli_folder::lock;
+use cli_folder::names;
+use cli_folder::replies;
+use cli_folder::run::Run;
+use cli_terminal::asked;
+use cli_terminal::options;
+use cli_terminal::say;
+use cli_terminal::status::Status;
 
-// How a run ended: with trouble that was told, with a refusal to answer on a table of that day, or with the replies to list (and, where they are asked
+// How a run ended: with trouble that was told, with a refusal to answer on a table of that day, or with the replies to list (and, where
+// they are asked
 // for, the explanations).
 struct Done {
     refusal: u32,
@@ -44,7 +46,7 @@ pub fn receive() -> Status {
         return Status::Trouble;
     }
     let mut table = io::buffer();
-    let n = names::of(2, b"TABLE", &mut table);
+    let n = names::of_table(2, &mut table);
     if n == 0 {
         return Status::Trouble;
     }
@@ -52,23 +54,24 @@ pub fn receive() -> Status {
 }
 
 fn receive_words(table: &[u8]) -> Status {
-    let words::Number::Is(day) = asked::date(3) else {
+    let cli_words::Number::Is(day) = asked::date(3) else {
         return Status::Trouble;
     };
-    let words::Number::Is(time) = asked::digits(4, 6, 6, b"TIME", b"six digits hhmmss") else {
+    let cli_words::Number::Is(time) = asked::digits(4, 6, 6, b"TIME", b"six digits hhmmss") else {
         return Status::Trouble;
     };
-    let words::Number::Is(kind) = asked::digits(5, 1, 9, b"TYPE", b"a data type, 1 to 16") else {
+    let cli_words::Number::Is(kind) = asked::digits(5, 1, 9, b"TYPE", b"a data type, 1 to 16")
+    else {
         return Status::Trouble;
     };
-    let words::Block::Of(clock) = asked::key(6, b"CLOCK") else {
+    let cli_words::Block::Of(clock) = asked::key(6, b"CLOCK") else {
         return Status::Trouble;
     };
-    let words::Number::Is(size) = asked::read_size(9) else {
+    let cli_words::Number::Is(size) = asked::read_size(9) else {
         return Status::Trouble;
     };
     let today = calendar::Date { yymmdd: day };
-    let o = answers::Opening {
+    let o = opening::Opening {
         today,
         time,
         kind,
@@ -78,14 +81,14 @@ fn receive_words(table: &[u8]) -> Status {
 }
 
 // The names of the file and of the replies.
-fn receive_into(table: &[u8], o: answers::Opening, size: usize) -> Status {
+fn receive_into(table: &[u8], o: opening::Opening, size: usize) -> Status {
     let mut file = io::buffer();
     let n = names::of_input(7, &mut file);
     if n == 0 {
         return Status::Trouble;
     }
     let mut replies = io::buffer();
-    let m = names::of(8, b"REPLIES", &mut replies);
+    let m = names::of_replies(8, &mut replies);
     if m == 0 {
         return Status::Trouble;
     }
@@ -103,7 +106,7 @@ fn receive_file(
     table: &[u8],
     file: &[u8],
     replies: &[u8],
-    o: answers::Opening,
+    o: opening::Opening,
     size: usize,
 ) -> Status {
     if is_input(file) {
@@ -123,7 +126,7 @@ fn receive_open(
     input: i32,
     file: &[u8],
     replies: &[u8],
-    o: answers::Opening,
+    o: opening::Opening,
     size: usize,
 ) -> Status {
     let r = lock::take(table);
@@ -136,8 +139,11 @@ fn receive_open(
 }
 
 // What is said once the table is free again, since a reader may be slow to take it.
-fn answered(done: Done, replies: &[u8], file: &[u8], o: answers::Opening) -> Status {
+fn answered(done: Done, replies: &[u8], file: &[u8], o: opening::Opening) -> Status {
     let today = o.today;
+    if done.refusal == 11 {
+        return say::answer_limits(b"TYPE", b"a data type, 1 to 16");
+    }
     if done.refusal != 0 {
         let day = done.day;
         return cli_days::answer(day, today, o.time, done.refusal);
@@ -155,7 +161,7 @@ fn under_lock(
     file: &[u8],
     replies: &[u8],
     r: Run,
-    o: answers::Opening,
+    o: opening::Opening,
     size: usize,
 ) -> Done {
     let mut t = [0u8; 49152];
@@ -171,7 +177,7 @@ fn under_lock(
     if !cli_days::is_meant(&t, today) {
         return trouble();
     }
-    let a = front::open(&mut t, o);
+    let a = calls::open(&mut t, o);
     if a.refusal != 0 {
         return Done {
             refusal: a.refusal,

@@ -1,10 +1,11 @@
-// The listing, once the table is saved and the replies have their name: K or E and the code of each, or, where they are asked for, the explanations.
+// The listing, once the table is saved and the replies have their name: K or E and the code of each, or, where they are asked for, the
+// explanations.
 // These are kept meanwhile in a file without a name, so that a run that is cut off leaves nothing of them.
-use folder::files;
-use folder::replies;
-use terminal::options;
-use terminal::say;
-use terminal::status::Status;
+use cli_folder::files;
+use cli_folder::replies;
+use cli_terminal::options;
+use cli_terminal::say;
+use cli_terminal::status::Status;
 
 // A file for the explanations: -1 where none are asked for, -2 and what is the matter where there can be none.
 pub fn begin(replies: &[u8]) -> i32 {

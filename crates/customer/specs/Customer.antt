@@ -4,13 +4,11 @@ use Prim.Native.Nat.{ℕ, zero, suc, _/_, _%_, _^_}
 use mathlib.Core.Bool.{Bool, true}
 use mathlib.Core.List.{List, [], _∷_}
 use lib.Dec.{eqb, ltb, leb}
-use lib.ListN.{take}
 use Rattle.ground.specs.Choice.{both, either, fails, between}
 use Rattle.calendar.specs.Dates.{realDate, realTime, earlier}
 use Rattle.keys.specs.Parity.{oddParity}
 use Rattle.keys.specs.Keys.{nextGeneration}
 use Rattle.customer.specs.Settings.{soundWho}
-use Rattle.customer.specs.declared.Changeover.{Changeover}
 use Rattle.customer.specs.declared.Previous.{Previous}
 use Rattle.customer.specs.declared.Previous.the-variants.{Nothing, Held}
 use Rattle.customer.specs.declared.KeyPair.{KeyPair}

@@ -1,11 +1,10 @@
 -- Names, and a bank's settings (document 01, 'Covered' and 'Call refusals').
 -- Assumes nothing.
-use Prim.Native.Nat.{ℕ, _<_, _^_}
+use Prim.Native.Nat.{ℕ}
 use mathlib.Core.Bool.{Bool}
 use mathlib.Core.List.{List}
-use mathlib.Core.Path.{_≡_}
 use lib.Dec.{eqb}
-use lib.ListN.{length, take}
+use lib.ListN.{take}
 use Rattle.ground.specs.Choice.{both, either, fails}
 use Rattle.ground.specs.Lists.{all}
 use Rattle.text.specs.Characters.{fieldCharacter, allBlank}

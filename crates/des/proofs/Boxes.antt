@@ -1,14 +1,12 @@
 -- The rule of the eight boxes' table, by one test that antt computes over the whole of it: each entry is below 16, the entry stands
 -- once in its row of sixteen, and so does the number of its column. So each row holds 0 to 15 once.
 -- Assumes nothing.
-use mathlib.Core.Path.{_≡_, refl}
-use mathlib.Core.Bool.{Bool, true, false}
-use mathlib.Core.List.{List, [], _∷_}
-use Prim.Native.Nat.{ℕ, suc, _+_, _*_, _/_, _%_, _<_}
+use mathlib.Core.Path.{_≡_}
+use mathlib.Core.Bool.{Bool}
+use Prim.Native.Nat.{ℕ, _+_, _*_, _/_, _%_, _<_}
 use native.Mathlib.Omega.{arith}
-use borrow.Author.Tests.{ltb-true, eqb-true}
 use lib.Dec.{T, ltb, eqb, ltb→lt, eqb→eq}
-use lib.ListN.{length, getD, take, drop}
+use lib.ListN.{getD}
 use Rattle.des.specs.Tables.{boxes}
 use Rattle.des.specs.Des.{box, boxAt, row, times}
 use Rattle.ground.specs.Choice.{both, one}

@@ -1,20 +1,20 @@
 -- Deciphering undoes enciphering: the two permutations by a test of their tables, the rounds one by one.
 -- Assumes nothing.
 use mathlib.Core.Path.{_≡_, refl, sym, ap, ap₂, _∙_, subst}
-use mathlib.Core.Bool.{Bool, true, false}
+use mathlib.Core.Bool.{true}
 use mathlib.Core.List.{List, [], _∷_, map, reverse, reverseAux, reverse-reverse}
 use Prim.Native.Nat.{ℕ, zero, suc, _+_, _-_, _*_, _/_, _%_, _^_, _≤_, _<_}
-use native.Mathlib.Nat.{le-of-suc-le-suc, not-suc-le-zero, mod-lt, pow-suc, add-comm, mul-assoc, add-mul-div-right, div-add-mod'}
+use native.Mathlib.Nat.{le-of-suc-le-suc, not-suc-le-zero, pow-suc, add-comm, mul-assoc, add-mul-div-right, div-add-mod'}
 use native.Mathlib.Numerals.{add-one}
 use native.Mathlib.Omega.{arith}
-use lib.Arith.{bin-ind, digits-div, digits-mod}
+use lib.Arith.{bin-ind}
 use lib.Bits.{bitXor, differ, xor-step, xor-lt, xor-self, xor-shr, xor-mod}
-use lib.ListN.{length, getD, drop}
-use lib.Pow.{pow-pos, pow-add, high, low, split, shr-shr, shr-lt}
+use lib.ListN.{length, getD}
+use lib.Pow.{pow-pos, pow-add, high, low, split, shr-shr}
 use Rattle.des.specs.Tables.{initial, final, boxes}
-use Rattle.des.specs.Des.{bit, select, permute, named, mixed, feistel, cipherBy, cipher, keysFrom, scheduleOf, enciphered, deciphered}
+use Rattle.des.specs.Des.{bit, select, permute, named, mixed, feistel, cipherBy, cipher, scheduleOf, enciphered, deciphered}
 use Rattle.ground.specs.Choice.{both}
-use Rattle.des.proofs.Laws.{named-at, named-tail, bit-lt, permute-lt, mixed-lt}
+use Rattle.des.proofs.Laws.{named-at, named-tail, permute-lt, mixed-lt}
 
 -- ---- the bits of a permuted number
 
@@ -31,9 +31,12 @@ digit-top b n p h g = rw (high b n h) (omega arith)
 digit-below : (b n p j : ℕ) → j < n → bit (b * 2 ^ n + p) j ≡ bit p j
 digit-below b n p j h =
     let m : ℕ = n - suc j in
-    let e : 2 ^ n ≡ 2 ^ m * 2 * 2 ^ j = ap (λ (k : ℕ). 2 ^ k) (apart n j h) ∙ pow-add 2 (m + 1) j ∙ ap (λ (k : ℕ). k * 2 ^ j) (pow-add 2 m 1) in
-    let f : b * 2 ^ n + p ≡ p + b * (2 ^ m * 2) * 2 ^ j = ap (λ (k : ℕ). b * k + p) e ∙ add-comm (b * (2 ^ m * 2 * 2 ^ j)) p ∙ ap (λ (k : ℕ). p + k) (sym (mul-assoc b (2 ^ m * 2) (2 ^ j))) in
-    let g : (b * 2 ^ n + p) / 2 ^ j ≡ p / 2 ^ j + b * (2 ^ m * 2) = ap (λ (k : ℕ). k / 2 ^ j) f ∙ add-mul-div-right p (b * (2 ^ m * 2)) (pow-pos j) in
+    let e : 2 ^ n ≡ 2 ^ m * 2 * 2 ^ j = ap (λ (k : ℕ). 2 ^ k) (apart n j h) ∙ pow-add 2 (m + 1) j
+    ∙ ap (λ (k : ℕ). k * 2 ^ j) (pow-add 2 m 1) in
+    let f : b * 2 ^ n + p ≡ p + b * (2 ^ m * 2) * 2 ^ j = ap (λ (k : ℕ). b * k + p) e ∙ add-comm (b * (2 ^ m * 2 * 2 ^ j)) p
+    ∙ ap (λ (k : ℕ). p + k) (sym (mul-assoc b (2 ^ m * 2) (2 ^ j))) in
+    let g : (b * 2 ^ n + p) / 2 ^ j ≡ p / 2 ^ j + b * (2 ^ m * 2) = ap (λ (k : ℕ). k / 2 ^ j) f
+    ∙ add-mul-div-right p (b * (2 ^ m * 2)) (pow-pos j) in
     rw g (omega arith)
   where
     apart : (n j : ℕ) → j < n → n ≡ n - suc j + 1 + j
@@ -51,7 +54,8 @@ permuted-bit w x (t ∷ ts) zero h =
 permuted-bit w x (t ∷ ts) (suc i) h =
     let e : suc (length ts) - suc (suc i) ≡ length ts - suc i = omega arith in
     rw (e, select-split w x (0 + bit x (w - t)) ts)
-    (digit-below (0 + bit x (w - t)) (length ts) (select w x 0 ts) (length ts - suc i) (omega arith) ∙ permuted-bit w x ts i (le-of-suc-le-suc h))
+    (digit-below (0 + bit x (w - t)) (length ts) (select w x 0 ts) (length ts - suc i) (omega arith)
+    ∙ permuted-bit w x ts i (le-of-suc-le-suc h))
 
 -- one table after another is the table of the entries that it names
 pub through : List ℕ → List ℕ → List ℕ
@@ -124,7 +128,8 @@ xor-cancel a =
         xor-step (bitXor n b) b
         ∙ ap₂ (λ (p q : ℕ). p * 2 + q)
         (ap (λ (m : ℕ). bitXor m (b / 2)) (xor-shr n b 1) ∙ ih)
-        (ap (λ (m : ℕ). differ m (b % 2)) (xor-mod n b 1 ∙ xor-digit (n % 2) (b % 2) (omega arith) (omega arith)) ∙ digit-cancel (n % 2) (b % 2) (omega arith) (omega arith))
+        (ap (λ (m : ℕ). differ m (b % 2)) (xor-mod n b 1 ∙ xor-digit (n % 2) (b % 2) (omega arith) (omega arith))
+        ∙ digit-cancel (n % 2) (b % 2) (omega arith) (omega arith))
         ∙ div-add-mod' n 2
 
 module _ (s : List ℕ) where
@@ -148,7 +153,12 @@ module _ (s : List ℕ) where
       let b : p < 2 ^ 64 = permute-lt initial 64 x in
       let hl : p / 2 ^ 32 < 2 ^ 32 = omega arith in
       let hr : p % 2 ^ 32 < 2 ^ 32 = omega arith in
-      rw (initial-final (feistel s ks (p / 2 ^ 32) (p % 2 ^ 32)) (feistel-lt ks (p / 2 ^ 32) (p % 2 ^ 32) hl hr), back ks [] (p / 2 ^ 32) (p % 2 ^ 32) hl hr, split p 32)
+      rw (
+        initial-final (feistel s ks (p / 2 ^ 32) (p % 2 ^ 32)) (feistel-lt ks (p / 2 ^ 32) (p % 2 ^ 32) hl hr),
+        back ks []
+            (p / 2 ^ 32) (p % 2 ^ 32) hl hr,
+        split p 32,
+      )
       (final-initial x hx)
 
   -- a block comes out of a block
@@ -167,4 +177,5 @@ deciphered-enciphered key x h = cipher-back boxes (scheduleOf key) x h
 
 pub enciphered-deciphered : (key x : ℕ) → x < 2 ^ 64 → enciphered key (deciphered key x) ≡ x
 enciphered-deciphered key x h =
-    subst (λ (ks : List ℕ). cipher ks (deciphered key x) ≡ x) (reverse-reverse (scheduleOf key)) (cipher-back boxes (reverse (scheduleOf key)) x h)
+    subst (λ (ks : List ℕ). cipher ks (deciphered key x) ≡ x) (reverse-reverse (scheduleOf key))
+    (cipher-back boxes (reverse (scheduleOf key)) x h)

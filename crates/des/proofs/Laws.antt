@@ -1,18 +1,18 @@
 -- The laws of the definitions that the proofs cite.
 -- Assumes nothing.
-use mathlib.Core.Path.{_≡_, refl, sym, ap, _∙_, subst}
-use mathlib.Core.Bool.{Bool, true, false}
+use mathlib.Core.Path.{_≡_, refl, ap, _∙_}
+use mathlib.Core.Bool.{true}
 use mathlib.Core.List.{List, [], _∷_, _++_, append-assoc, append-nil}
-use Prim.Native.Nat.{ℕ, zero, suc, _+_, _-_, _*_, _/_, _%_, _^_, _≤_, _<_, zero-le, suc-le-suc}
-use native.Mathlib.Nat.{le-of-suc-le-suc, not-suc-le-zero, le-refl, le-trans, lt-of-lt-of-le, lt-of-le-of-lt, mod-lt, mul-le-mul-right, pow-suc}
+use Prim.Native.Nat.{ℕ, zero, suc, _+_, _-_, _*_, _^_, _≤_, _<_}
+use native.Mathlib.Nat.{le-of-suc-le-suc, not-suc-le-zero, lt-of-lt-of-le, mul-le-mul-right, pow-suc}
 use native.Mathlib.Numerals.{add-one}
 use native.Mathlib.Omega.{arith}
 use borrow.Author.Tests.{ltb-true, leb-true}
-use lib.Dec.{T, ltb, leb, ltb→lt}
+use lib.Dec.{ltb, leb}
 use lib.Bits.{bitXor}
 use lib.ListN.{length, getD, take, drop, set, drop-of-length-le}
 use lib.Seq.{drop-cons, take-suc-set, take-all}
-use lib.Pow.{pow-pos, pow-mono, pow-add}
+use lib.Pow.{pow-mono}
 use Rattle.des.specs.Des.{bit, select, permute, named, mixed, feistel, rotated, keysFrom, scheduleOf}
 use Rattle.des.specs.Tables.{shifts, spread, choice2}
 use Rattle.ground.specs.Choice.{both}

@@ -2,13 +2,13 @@
 -- exclusive ors is shown to be a permutation by one test that antt computes.
 -- Assumes nothing.
 use mathlib.Core.Path.{_≡_, refl, sym, ap, ap₂, _∙_, subst}
-use mathlib.Core.Bool.{Bool, true, false}
+use mathlib.Core.Bool.{Bool, true}
 use mathlib.Core.List.{List, [], _∷_}
-use Prim.Native.Nat.{ℕ, zero, suc, _+_, _-_, _*_, _/_, _%_, _^_, _≤_, _<_, min}
-use native.Mathlib.Nat.{mod-lt, div-add-mod', mul-comm, add-zero, one-mul, zero-mul}
+use Prim.Native.Nat.{ℕ, zero, suc, _+_, _-_, _*_, _/_, _%_, _^_, _<_}
+use native.Mathlib.Nat.{mod-lt, mul-comm, add-zero, one-mul, zero-mul}
 use native.Mathlib.Omega.{arith}
 use lib.Arith.{bin-ind, lt-one}
-use lib.Bits.{bitXor, bitAnd, xor-shr, xor-mod, and-shr, and-mod, xor-self, xor-comm, xor-block, xor-shifted, and-zero-r}
+use lib.Bits.{bitXor, bitAnd, xor-shr, xor-mod, and-shr, and-mod, xor-self, xor-comm, xor-block, xor-shifted}
 use lib.Dec.{T, eqb, eqb→eq, lit<}
 use native.Mathlib.Numerals.{one-add}
 use lib.Pow.{pow-pos, split, shr-lt}
@@ -72,7 +72,8 @@ and-digits d1 d1 d1 = refl
 pub and-xor : (a b m : ℕ) → bitAnd (bitXor a b) m ≡ bitXor (bitAnd a m) (bitAnd b m)
 and-xor a =
     bin-ind (λ (n : ℕ). (b m : ℕ) → bitAnd (bitXor n b) m ≡ bitXor (bitAnd n m) (bitAnd b m)) (λ b m. refl)
-    (λ n ih b m. by-halves _ _ (simp (half-xor, half-and) (ih (b / 2) (m / 2))) (simp (odd-xor, odd-and) (and-digits (odd n) (odd b) (odd m)))) a
+    (λ n ih b m. by-halves _ _ (simp (half-xor, half-and) (ih (b / 2) (m / 2)))
+    (simp (odd-xor, odd-and) (and-digits (odd n) (odd b) (odd m)))) a
 
 pub xor-shl : (a b k : ℕ) → bitXor (a * 2 ^ k) (b * 2 ^ k) ≡ bitXor a b * 2 ^ k
 xor-shl a b k =
@@ -152,6 +153,7 @@ module _ (f g : ℕ → ℕ) (lf : Linear f) (lg : Linear g) where
       let e : x ≡ bitXor (q * 2 ^ n) r = sym (xor-shifted q n r (mod-lt x (pow-pos n)) ∙ split x n) in
       ap f e ∙ lf (q * 2 ^ n) r
       ∙ ap₂ bitXor
-      (at-digit q n (shr-lt 1 n (subst (λ (m : ℕ). x < 2 ^ m) (sym (one-add n)) h)) (eqb→eq (f (2 ^ n)) (g (2 ^ n)) (both-left (eqb (f (2 ^ n)) (g (2 ^ n))) (same f g n) t)))
+      (at-digit q n (shr-lt 1 n (subst (λ (m : ℕ). x < 2 ^ m) (sym (one-add n)) h))
+      (eqb→eq (f (2 ^ n)) (g (2 ^ n)) (both-left (eqb (f (2 ^ n)) (g (2 ^ n))) (same f g n) t)))
       (agree n (both-right (eqb (f (2 ^ n)) (g (2 ^ n))) (same f g n) t) r (mod-lt x (pow-pos n)))
       ∙ sym (lg (q * 2 ^ n) r) ∙ sym (ap g e)

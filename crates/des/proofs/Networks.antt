@@ -1,24 +1,20 @@
 -- The quick parts are what FIPS 46-3 says, by tests at the powers of two: the delta swaps IP and its inverse, the wrapped number's
 -- groups those of E, the shifts and masks P.
 -- Assumes nothing.
-use mathlib.Core.Path.{_≡_, refl, sym, ap, ap₂, _∙_, subst}
-use mathlib.Core.List.{List, [], _∷_, _++_}
-use Prim.Native.Nat.{ℕ, zero, suc, _+_, _-_, _*_, _/_, _%_, _^_, _≤_, _<_}
-use native.Mathlib.Nat.{mul-le-mul-right, le-of-suc-le-suc, not-suc-le-zero, add-zero, zero-add}
+use mathlib.Core.Path.{_≡_, sym, ap, _∙_}
+use mathlib.Core.List.{List, [], _∷_}
+use Prim.Native.Nat.{ℕ, _+_, _-_, _*_, _/_, _%_, _^_, _<_}
 use native.Mathlib.Omega.{arith}
-use lib.Bits.{bitXor, bitAnd, xor-shr, xor-mod, xor-shifted}
+use lib.Bits.{bitXor, bitAnd, xor-shr, xor-mod}
 use lib.Dec.{T, lit<}
-use lib.ListN.{length, getD, take, set}
-use lib.Seq.{take-suc, take-suc-set, take-all}
-use native.Mathlib.Numerals.{add-one}
+use lib.ListN.{getD}
 use mathlib.Core.Bool.{Bool}
 use Rattle.ground.specs.Choice.{both}
 use Rattle.ground.proofs.Table.{at}
-use lib.Pow.{pow-add, pow-pos, shl-exact}
 use Rattle.des.specs.Tables.{initial, final, expansion, spread}
-use Rattle.des.specs.Des.{select, permute, box, substituteFrom, substituted, mixed}
+use Rattle.des.specs.Des.{select, permute, box, substituteFrom, substituted}
 use Rattle.des.specs.Quick.{deltaSwap, wrapped, Term, terms, twice, places, spreadNet}
-use Rattle.des.proofs.Linear.{Linear, lin-id, lin-shr, lin-shl, lin-mod, lin-and, lin-xor, lin-after, lin-permute, lin-zero, same, agree}
+use Rattle.des.proofs.Linear.{Linear, lin-id, lin-shr, lin-shl, lin-mod, lin-and, lin-xor, lin-after, lin-permute, same, agree}
 
 -- ---- IP and its inverse
 
@@ -133,15 +129,24 @@ pub substituted-from : (s : List ℕ) (r k x e0 e1 e2 e3 e4 e5 e6 e7 : ℕ) → 
     → e5 ≡ box s 5 (bitXor (x / 2 ^ 8) (k / 2 ^ 12) % 64)
     → e6 ≡ box s 6 (bitXor (x / 2 ^ 4) (k / 2 ^ 6) % 64)
     → e7 ≡ box s 7 (bitXor (x / 2 ^ 0) (k / 2 ^ 0) % 64)
-    → 16 * (16 * (16 * (16 * (16 * (16 * (16 * e0 + e1) + e2) + e3) + e4) + e5) + e6) + e7 ≡ substituted s (bitXor (permute expansion 32 r) k)
+    → 16 * (16 * (16 * (16 * (16 * (16 * (16 * e0 + e1) + e2) + e3) + e4) + e5) + e6) + e7
+    ≡ substituted s (bitXor (permute expansion 32 r) k)
 unfolding substituteFrom
 substituted-from s r k x e0 e1 e2 e3 e4 e5 e6 e7 h ex p0 p1 p2 p3 p4 p5 p6 p7 =
-    let h0 : e0 ≡ box s 0 (bitXor (permute expansion 32 r) k / 2 ^ 42 % 64) = p0 ∙ ap (λ (n : ℕ). box s 0 (bitXor (n / 2 ^ 28) (k / 2 ^ 42) % 64)) ex ∙ ap (box s 0) (group-at 0 (lit< tt) r k h) in
-    let h1 : e1 ≡ box s 1 (bitXor (permute expansion 32 r) k / 2 ^ 36 % 64) = p1 ∙ ap (λ (n : ℕ). box s 1 (bitXor (n / 2 ^ 24) (k / 2 ^ 36) % 64)) ex ∙ ap (box s 1) (group-at 1 (lit< tt) r k h) in
-    let h2 : e2 ≡ box s 2 (bitXor (permute expansion 32 r) k / 2 ^ 30 % 64) = p2 ∙ ap (λ (n : ℕ). box s 2 (bitXor (n / 2 ^ 20) (k / 2 ^ 30) % 64)) ex ∙ ap (box s 2) (group-at 2 (lit< tt) r k h) in
-    let h3 : e3 ≡ box s 3 (bitXor (permute expansion 32 r) k / 2 ^ 24 % 64) = p3 ∙ ap (λ (n : ℕ). box s 3 (bitXor (n / 2 ^ 16) (k / 2 ^ 24) % 64)) ex ∙ ap (box s 3) (group-at 3 (lit< tt) r k h) in
-    let h4 : e4 ≡ box s 4 (bitXor (permute expansion 32 r) k / 2 ^ 18 % 64) = p4 ∙ ap (λ (n : ℕ). box s 4 (bitXor (n / 2 ^ 12) (k / 2 ^ 18) % 64)) ex ∙ ap (box s 4) (group-at 4 (lit< tt) r k h) in
-    let h5 : e5 ≡ box s 5 (bitXor (permute expansion 32 r) k / 2 ^ 12 % 64) = p5 ∙ ap (λ (n : ℕ). box s 5 (bitXor (n / 2 ^ 8) (k / 2 ^ 12) % 64)) ex ∙ ap (box s 5) (group-at 5 (lit< tt) r k h) in
-    let h6 : e6 ≡ box s 6 (bitXor (permute expansion 32 r) k / 2 ^ 6 % 64) = p6 ∙ ap (λ (n : ℕ). box s 6 (bitXor (n / 2 ^ 4) (k / 2 ^ 6) % 64)) ex ∙ ap (box s 6) (group-at 6 (lit< tt) r k h) in
-    let h7 : e7 ≡ box s 7 (bitXor (permute expansion 32 r) k / 2 ^ 0 % 64) = p7 ∙ ap (λ (n : ℕ). box s 7 (bitXor (n / 2 ^ 0) (k / 2 ^ 0) % 64)) ex ∙ ap (box s 7) (group-at 7 (lit< tt) r k h) in
+    let h0 : e0 ≡ box s 0 (bitXor (permute expansion 32 r) k / 2 ^ 42 % 64) = p0
+    ∙ ap (λ (n : ℕ). box s 0 (bitXor (n / 2 ^ 28) (k / 2 ^ 42) % 64)) ex ∙ ap (box s 0) (group-at 0 (lit< tt) r k h) in
+    let h1 : e1 ≡ box s 1 (bitXor (permute expansion 32 r) k / 2 ^ 36 % 64) = p1
+    ∙ ap (λ (n : ℕ). box s 1 (bitXor (n / 2 ^ 24) (k / 2 ^ 36) % 64)) ex ∙ ap (box s 1) (group-at 1 (lit< tt) r k h) in
+    let h2 : e2 ≡ box s 2 (bitXor (permute expansion 32 r) k / 2 ^ 30 % 64) = p2
+    ∙ ap (λ (n : ℕ). box s 2 (bitXor (n / 2 ^ 20) (k / 2 ^ 30) % 64)) ex ∙ ap (box s 2) (group-at 2 (lit< tt) r k h) in
+    let h3 : e3 ≡ box s 3 (bitXor (permute expansion 32 r) k / 2 ^ 24 % 64) = p3
+    ∙ ap (λ (n : ℕ). box s 3 (bitXor (n / 2 ^ 16) (k / 2 ^ 24) % 64)) ex ∙ ap (box s 3) (group-at 3 (lit< tt) r k h) in
+    let h4 : e4 ≡ box s 4 (bitXor (permute expansion 32 r) k / 2 ^ 18 % 64) = p4
+    ∙ ap (λ (n : ℕ). box s 4 (bitXor (n / 2 ^ 12) (k / 2 ^ 18) % 64)) ex ∙ ap (box s 4) (group-at 4 (lit< tt) r k h) in
+    let h5 : e5 ≡ box s 5 (bitXor (permute expansion 32 r) k / 2 ^ 12 % 64) = p5
+    ∙ ap (λ (n : ℕ). box s 5 (bitXor (n / 2 ^ 8) (k / 2 ^ 12) % 64)) ex ∙ ap (box s 5) (group-at 5 (lit< tt) r k h) in
+    let h6 : e6 ≡ box s 6 (bitXor (permute expansion 32 r) k / 2 ^ 6 % 64) = p6
+    ∙ ap (λ (n : ℕ). box s 6 (bitXor (n / 2 ^ 4) (k / 2 ^ 6) % 64)) ex ∙ ap (box s 6) (group-at 6 (lit< tt) r k h) in
+    let h7 : e7 ≡ box s 7 (bitXor (permute expansion 32 r) k / 2 ^ 0 % 64) = p7
+    ∙ ap (λ (n : ℕ). box s 7 (bitXor (n / 2 ^ 0) (k / 2 ^ 0) % 64)) ex ∙ ap (box s 7) (group-at 7 (lit< tt) r k h) in
     omega arith

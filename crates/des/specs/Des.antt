@@ -15,7 +15,7 @@ abbrev pub bit : ℕ → ℕ → ℕ
 bit x k = x / 2 ^ k % 2
 
 -- acc followed by the bits of the w-bit number x that the table names
-unfoldable pub select : ℕ → ℕ → ℕ → List ℕ → ℕ
+unfoldable pub select : (width x sofar : ℕ) (table : List ℕ) → ℕ
 select w x acc [] = acc
 select w x acc (t ∷ ts) = select w x (2 * acc + bit x (w - t)) ts
 
@@ -32,7 +32,7 @@ unfoldable pub box : List ℕ → ℕ → ℕ → ℕ
 box s i v = getD s (boxAt i v) 0
 
 -- the boxes from i on, n of them, each on its six bits of the 48-bit number b
-unfoldable pub substituteFrom : List ℕ → ℕ → ℕ → ℕ → ℕ → ℕ
+unfoldable pub substituteFrom : (boxes : List ℕ) (x sofar i n : ℕ) → ℕ
 substituteFrom s b acc i zero = acc
 substituteFrom s b acc i (suc n) = substituteFrom s b (16 * acc + box s i (b / 2 ^ (42 - 6 * i) % 64)) (suc i) n
 

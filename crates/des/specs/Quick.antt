@@ -5,7 +5,7 @@ use Prim.Native.Nat.{ℕ, _*_, _/_, _%_, _^_}
 use lib.Bits.{bitXor, bitAnd}
 
 -- the bits of x that the mask names change places with those d above them
-abbrev pub deltaSwap : ℕ → ℕ → ℕ → ℕ
+abbrev pub deltaSwap : (distance mask x : ℕ) → ℕ
 deltaSwap d m x =
     bitXor (bitXor x (bitAnd (bitXor (x / 2 ^ d) x) m)) (bitAnd (bitXor (x / 2 ^ d) x) m * 2 ^ d % 2 ^ 64)
 

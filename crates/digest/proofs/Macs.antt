@@ -1,11 +1,11 @@
 -- The state that takes bytes one after the other ends at the MAC of all of them: its block holds the bytes since the last full block.
 -- Assumes nothing.
 use mathlib.Core.Path.{_≡_, refl, sym, ap, _∙_}
-use mathlib.Core.Bool.{Bool, true, false}
 use mathlib.Core.List.{List, [], _∷_, _++_, map, append-assoc, append-nil}
-use mathlib.Core.Logic.{_⊎_, inl, inr, ⊎-elim}
+use mathlib.Core.Logic.{⊎-elim}
 use Prim.Native.Nat.{ℕ, zero, suc, _+_, _-_, _*_, _%_, _^_, _≤_, _<_}
-use native.Mathlib.Nat.{le-of-suc-le-suc, not-suc-le-zero, lt-of-lt-of-le, mod-eq-of-lt, mul-assoc, mul-le-mul-right, mul-lt-mul-of-pos-right, one-le-pow, pow-succ', pow-le-pow-right, add-zero}
+use native.Mathlib.Nat.{lt-of-lt-of-le, mod-eq-of-lt, mul-assoc, mul-le-mul-right}
+use native.Mathlib.Nat.{mul-lt-mul-of-pos-right, one-le-pow, pow-succ', pow-le-pow-right, add-zero}
 use native.Mathlib.Omega.{arith}
 use borrow.Author.Tests.{eqb-true, eqb-false, eq-eqb, ne-eqb}
 use lib.Bits.{bitXor}
@@ -14,9 +14,10 @@ use lib.ListN.{length, take, replicate, length-append}
 use lib.Pow.{pow-add}
 use lib.Seq.{take-at, drop-at, take-append-add, append-snoc}
 use Rattle.ground.proofs.Choices.{picks, skips, between-true}
+use Rattle.ground.proofs.Lists.{take-zeros}
+use Rattle.ground.proofs.Bools.{outcome, picked}
 use Rattle.text.specs.Characters.{small, fieldCharacter, internal}
 use Rattle.text.proofs.Laws.{field-lt}
-use Rattle.text.proofs.Lists.{picked}
 use Rattle.des.proofs.Laws.{Each, none, more}
 use Rattle.digest.specs.Mac.{bytesFrom, blockOf, blocksFrom, blockCount, blocks, chained, mac}
 use Rattle.digest.specs.Kept.{answerOf}
@@ -82,11 +83,6 @@ pushes p b h k l =
 
 -- ---- blocks
 
-zeros : (m n : ℕ) → m ≤ n → take {A = ℕ} m (replicate n 0) ≡ replicate m 0
-zeros zero n h = refl
-zeros (suc m) zero h = absurd (not-suc-le-zero h)
-zeros (suc m) (suc n) h = ap (λ (l : List ℕ). 0 ∷ l) (zeros m n (le-of-suc-le-suc h))
-
 -- a short block is filled on the right
 block-short : (p : List ℕ) → length p ≤ 8 → blockOf p ≡ bytesFrom 0 p * 256 ^ (8 - length p)
 unfolding blockOf
@@ -95,7 +91,7 @@ block-short p h =
     ap (bytesFrom 0)
     (ap (λ (n : ℕ). take n (p ++ replicate 8 0)) n
     ∙ take-append-add p (replicate 8 0) (8 - length p)
-    ∙ ap (λ (l : List ℕ). p ++ l) (zeros (8 - length p) 8 (omega arith)))
+    ∙ ap (λ (l : List ℕ). p ++ l) (take-zeros (8 - length p) 8 (omega arith)))
     ∙ bytes-append 0 p (replicate (8 - length p) 0)
     ∙ bytes-zeros (bytesFrom 0 p) (8 - length p)
 
@@ -116,10 +112,6 @@ blocks-short x p h =
     ap (λ (n : ℕ). blocksFrom n (x ∷ p)) n
 
 -- ---- the running state
-
-outcome : (t : Bool) → (t ≡ true) ⊎ (t ≡ false)
-outcome true = inl refl
-outcome false = inr refl
 
 module _ (e : ℕ → ℕ) where
   -- the state after full blocks, with the bytes p since

@@ -14,9 +14,9 @@ use Rattle.ground.specs.Lists.{overlay}
 use Rattle.ground.proofs.Choices.{join, fails-left, fails-right, picks, skips}
 use Rattle.session_bytes.specs.Session.{sessionSize, sessionIn, sessionStored}
 use Rattle.session.specs.declared.Session.{Session}
-use Rattle.register.specs.Calls.{settingUpAnswer, addingAnswer, enteringAnswer, orderingAnswer}
-use Rattle.register.specs.Calls.{settingUpLeaves, addingLeaves, enteringLeaves, orderingLeaves}
-use Rattle.answers.specs.declared.Opening.{Opening}
+use Rattle.table_calls.specs.Calls.{settingUpAnswer, addingAnswer, enteringAnswer, orderingAnswer}
+use Rattle.table_calls.specs.Calls.{settingUpLeaves, addingLeaves, enteringLeaves, orderingLeaves}
+use Rattle.opening.specs.declared.Opening.{Opening}
 use Rattle.calls.specs.Reading.{Done, openingGives, openingLeaves, readDone, endDone}
 use Rattle.calls.specs.declared.Answer.{Answer}
 use Rattle.calls.specs.declared.OpenAnswer.{OpenAnswer}
@@ -138,7 +138,8 @@ heard-made session f es d ef er =
     }
 
 module _ (w session input room : List ℕ) {s : Session} {a : Answer} {r : ℕ} {table after shown : List ℕ} (es : s ≡ sessionIn session) where
-  pub read-made : (a ≡ readDone s w input room .answer) × ((table ≡ readDone s w input room .table) × (shown ≡ readDone s w input room .room))
+  pub read-made : (a ≡ readDone s w input room .answer)
+      × ((table ≡ readDone s w input room .table) × (shown ≡ readDone s w input room .room))
       → after ≡ sessionAfter session a → r ≡ packed a
       → MeetsBox w (lpRead session input room) r table after shown
   unfolding readBy boxAnswer boxTable boxSession boxRoom callOf leftBy

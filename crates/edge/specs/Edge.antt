@@ -7,13 +7,13 @@ use lib.Dec.{eqb, ltb}
 use lib.ListN.{length, replicate}
 use Rattle.ground.specs.Choice.{both, pick, one}
 use Rattle.calendar.specs.declared.CalendarDays.{CalendarDays}
-use Rattle.conditions.specs.declared.Length.{Length}
-use Rattle.conditions.specs.declared.Length.the-variants.{Given, LeftOut}
-use Rattle.register.specs.declared.Setting.{Setting}
-use Rattle.register.specs.declared.Adding.{Adding}
-use Rattle.register.specs.declared.Entering.{Entering}
-use Rattle.register.specs.declared.Ordering.{Ordering}
-use Rattle.answers.specs.declared.Opening.{Opening}
+use Rattle.refusals.specs.declared.Length.{Length}
+use Rattle.refusals.specs.declared.Length.the-variants.{Given, LeftOut}
+use Rattle.table_calls.specs.declared.Setting.{Setting}
+use Rattle.table_calls.specs.declared.Adding.{Adding}
+use Rattle.table_calls.specs.declared.Entering.{Entering}
+use Rattle.table_calls.specs.declared.Ordering.{Ordering}
+use Rattle.opening.specs.declared.Opening.{Opening}
 use Rattle.session_bytes.specs.Session.{sessionSize, sessionIn, sessionStored}
 use Rattle.calls.specs.Reading.{Done, readDone, endDone}
 use Rattle.calls.specs.declared.OpenAnswer.{OpenAnswer}
@@ -27,7 +27,7 @@ fixed n l = pick (eqb (length l) n) l (replicate n 0)
 unfoldable pub isFlag : ℕ → Bool
 isFlag n = ltb n 2
 
-unfoldable pub settingBy : List ℕ → List ℕ → ℕ → ℕ → ℕ → Setting
+unfoldable pub settingBy : (bank software : List ℕ) (floor key seed : ℕ) → Setting
 settingBy bank software floor k v =
     record { bank = fixed 25 bank; software = fixed 16 software; floor = floor; key = k; seed = v }
 
@@ -35,10 +35,10 @@ unfoldable pub lengthBy : ℕ → CalendarDays → Length
 lengthBy given n = pick (eqb given 0) LeftOut (Given n)
 
 -- yes-or-no numbers other than 0 and 1 are refusal 11, as types past the sixteenth are
-unfoldable pub typesBy : ℕ → ℕ → ℕ → ℕ → ℕ
+unfoldable pub typesBy : (types agreed leave given : ℕ) → ℕ
 typesBy types agreed leave given = pick (both (isFlag agreed) (both (isFlag leave) (isFlag given))) types (2 ^ 16)
 
-unfoldable pub addingBy : ℕ → List ℕ → ℕ → ℕ → ℕ → ℕ → ℕ → ℕ → ℕ → ℕ → ℕ → Adding
+unfoldable pub addingBy : (today : ℕ) (who : List ℕ) (part1 part2 check generation types agreed leave given days : ℕ) → Adding
 addingBy today who part1 part2 check generation types agreed leave given n =
     record {
       today = record { yymmdd = today };
@@ -53,7 +53,7 @@ addingBy today who part1 part2 check generation types agreed leave given n =
       length = lengthBy given (record { 0 = n });
     }
 
-unfoldable pub enteringBy : ℕ → List ℕ → ℕ → ℕ → ℕ → ℕ → Entering
+unfoldable pub enteringBy : (today : ℕ) (who : List ℕ) (part1 part2 check generation : ℕ) → Entering
 enteringBy today who part1 part2 check generation =
     record {
       today = record { yymmdd = today };
@@ -68,7 +68,7 @@ unfoldable pub orderingBy : ℕ → List ℕ → ℕ → Ordering
 orderingBy today who clock = record { today = record { yymmdd = today }; who = fixed 25 who; clock = clock }
 
 -- a session's buffer of another length is refusal 11, as a data type that is none
-unfoldable pub openingBy : List ℕ → ℕ → ℕ → ℕ → ℕ → Opening
+unfoldable pub openingBy : (session : List ℕ) (today time kind clock : ℕ) → Opening
 openingBy session today time kind clock =
     record {
       today = record { yymmdd = today };
@@ -101,8 +101,8 @@ finishedIn p = eqb (p / 2 ^ 56 % 2) 1
 unfoldable pub refusalIn : ℕ → ℕ
 refusalIn p = p / 2 ^ 57
 
-unfoldable pub readBy : List ℕ → List ℕ → List ℕ → List ℕ → Done
+unfoldable pub readBy : (b session input reply : List ℕ) → Done
 readBy table session input reply = readDone (sessionIn session) table input reply
 
-unfoldable pub endBy : List ℕ → List ℕ → List ℕ → Done
+unfoldable pub endBy : (b session reply : List ℕ) → Done
 endBy table session reply = endDone (sessionIn session) table reply

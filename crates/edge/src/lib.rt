@@ -44,13 +44,13 @@ fn types_by(types: u32, agreed: u32, leave: u32, given: u32) -> u32
     types
 }
 
-fn length_by(given: u32, n: calendar::CalendarDays) -> conditions::Length
+fn length_by(given: u32, n: calendar::CalendarDays) -> refusals::Length
     ensures { λ r. ⌜ r ≡ lengthBy given n ⌝ }
 {
     if given == 0 {
-        return conditions::Length::LeftOut;
+        return refusals::Length::LeftOut;
     }
-    conditions::Length::Given(n)
+    refusals::Length::Given(n)
 }
 
 // How many bytes a session takes.
@@ -75,14 +75,14 @@ pub extern "C" fn lp_set_up(
         (lpSetUp (now (bank .entry)) (now (software .entry)) floor k v (now (holidays .entry)))
         r (now (table .exit)) [] [] ⌝ }
 {
-    let s = register::Setting {
+    let s = table_calls::Setting {
         bank: fixed25(bank),
         software: fixed16(software),
         floor,
         key: k,
         seed: v,
     };
-    front::set_up(table, s, holidays)
+    table_calls::set_up(table, s, holidays)
 }
 
 #[no_mangle]
@@ -104,7 +104,7 @@ pub extern "C" fn lp_add(
         (lpAdd today (now (who .entry)) part1 part2 check generation types agreed leave given length)
         r (now (table .exit)) [] [] ⌝ }
 {
-    let a = register::Adding {
+    let a = table_calls::Adding {
         today: calendar::Date { yymmdd: today },
         who: fixed25(who),
         part1,
@@ -116,7 +116,7 @@ pub extern "C" fn lp_add(
         leave: leave == 1,
         length: length_by(given, calendar::CalendarDays(length)),
     };
-    front::add(table, a)
+    table_calls::add(table, a)
 }
 
 #[no_mangle]
@@ -133,7 +133,7 @@ pub extern "C" fn lp_enter(
         (lpEnter today (now (who .entry)) part1 part2 check generation)
         r (now (table .exit)) [] [] ⌝ }
 {
-    let e = register::Entering {
+    let e = table_calls::Entering {
         today: calendar::Date { yymmdd: today },
         who: fixed25(who),
         part1,
@@ -141,7 +141,7 @@ pub extern "C" fn lp_enter(
         check: check as u64,
         generation,
     };
-    front::enter(table, e)
+    table_calls::enter(table, e)
 }
 
 #[no_mangle]
@@ -150,12 +150,12 @@ pub extern "C" fn lp_order(table: &mut [u8], today: u32, who: &[u8], clock: u64)
         (lpOrder today (now (who .entry)) clock)
         r (now (table .exit)) [] [] ⌝ }
 {
-    let o = register::Ordering {
+    let o = table_calls::Ordering {
         today: calendar::Date { yymmdd: today },
         who: fixed25(who),
         clock,
     };
-    front::order(table, o)
+    table_calls::order(table, o)
 }
 
 // A session's buffer of another length stands for a data type that is none.
@@ -191,13 +191,13 @@ pub extern "C" fn lp_open(
         (lpOpen (now (session .entry)) today time kind clock)
         r (now (table .exit)) (now (session .exit)) [] ⌝ }
 {
-    let o = answers::Opening {
+    let o = opening::Opening {
         today: calendar::Date { yymmdd: today },
         time,
         kind: kind_asked(session.len(), kind),
         clock,
     };
-    let a = front::open(table, o);
+    let a = calls::open(table, o);
     put_opened(session, a);
     a.refusal
 }
@@ -263,7 +263,7 @@ pub extern "C" fn lp_read(
         r (now (table .exit)) (now (session .exit)) (now (reply .exit)) ⌝ }
 {
     let s = session_bytes::load(session);
-    let a = front::read(table, s, input, reply);
+    let a = calls::read(table, s, input, reply);
     put_session(session, a);
     packed_answer(a)
 }
@@ -275,7 +275,7 @@ pub extern "C" fn lp_end(table: &mut [u8], session: &mut [u8], reply: &mut [u8])
         r (now (table .exit)) (now (session .exit)) (now (reply .exit)) ⌝ }
 {
     let s = session_bytes::load(session);
-    let a = front::end(table, s, reply);
+    let a = calls::end(table, s, reply);
     put_session(session, a);
     packed_answer(a)
 }

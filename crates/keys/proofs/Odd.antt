@@ -49,7 +49,8 @@ bytes-lt (suc n) x = rw (pow-suc 256 n) (omega (arith, bytes-lt n (x / 256), byt
 
 -- the byte i from the top joins those above it
 pub bytes-step : (x i : ℕ) → i < 8
-    → parityBytes (i + 1) (x / 2 ^ (64 - 8 * (i + 1))) ≡ parityBytes i (x / 2 ^ (64 - 8 * i)) * 256 + parityByte (x / 2 ^ (56 - 8 * i) % 256)
+    → parityBytes (i + 1) (x / 2 ^ (64 - 8 * (i + 1))) ≡ parityBytes i (x / 2 ^ (64 - 8 * i)) * 256 + parityByte
+    (x / 2 ^ (56 - 8 * i) % 256)
 unfolding parityBytes
 bytes-step x i h =
     let k : 64 - 8 * (i + 1) ≡ 56 - 8 * i = omega arith in
@@ -109,4 +110,5 @@ odd-test x h = by (oddParity x) refl
   where
     by : (t : Bool) → oddParity x ≡ t → eqb x (withParity x) ≡ t
     by true e = eq-eqb x (withParity x) (sym (parity-stays x h e))
-    by false e = ne-eqb x (withParity x) (λ p. let z : true ≡ false = sym (parity-odd x) ∙ ap oddParity (sym p) ∙ e in let w : _≡_ {A = ℕ} 0 1 = cc in omega arith)
+    by false e = ne-eqb x (withParity x) (λ p. let z : true ≡ false = sym (parity-odd x) ∙ ap oddParity (sym p)
+        ∙ e in let w : _≡_ {A = ℕ} 0 1 = cc in omega arith)

@@ -21,10 +21,10 @@ madeOf m dt =
     }
 
 -- the key made of K, V and DT, and the seed after it
-abbrev pub keyOf : ℕ → ℕ → ℕ → ℕ
+abbrev pub keyOf : (key seed clock : ℕ) → ℕ
 keyOf k v dt = madeOf (record { key = k; seed = v }) dt .made
 
-abbrev pub nextSeed : ℕ → ℕ → ℕ → ℕ
+abbrev pub nextSeed : (key seed clock : ℕ) → ℕ
 nextSeed k v dt = madeOf (record { key = k; seed = v }) dt .maker .seed
 
 -- the clock value: the one given at opening plus the number of keys made in this file, carried round past 64 bits

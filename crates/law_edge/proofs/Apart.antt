@@ -2,13 +2,13 @@
 -- bytes, a reply is at most 317 long, and the refusal is at most 3.
 -- Assumes nothing.
 use Prim.Native.Nat.{ℕ, _/_, _%_, _<_, _≤_, _^_}
-use mathlib.Core.Path.{_≡_, refl, ap, _∙_}
+use mathlib.Core.Path.{_≡_, ap, _∙_}
 use mathlib.Core.List.{List}
-use mathlib.Core.Bool.{Bool, true, false}
+use mathlib.Core.Bool.{Bool}
 use native.Mathlib.Omega.{arith}
 use lib.Dec.{eqb}
 use Rattle.ground.specs.Choice.{one}
-use Rattle.text.proofs.Lists.{picked}
+use Rattle.ground.proofs.Bools.{one-read, one-small, picked}
 use Rattle.reply.specs.Reply.{replyLength, writtenLength}
 use Rattle.session.specs.Events.{Turn}
 use Rattle.session.specs.Ranges.{Encodes}
@@ -16,7 +16,7 @@ use Rattle.session.specs.declared.Reply.{Reply}
 use Rattle.session.specs.declared.Session.{Session}
 use Rattle.session_bytes.specs.Session.{sessionIn}
 use Rattle.session_bytes.proofs.Any.{encodes-in}
-use Rattle.cutting.proofs.Counted.{taken-counted}
+use Rattle.law_cutting.proofs.Counted.{taken-counted}
 use Rattle.calls.specs.Reading.{Done, lengthOf, refusedBy, servedBy, readServed, readDone, endDone}
 use Rattle.calls.specs.declared.Answer.{Answer}
 use Rattle.edge.specs.Edge.{packed, takenIn, lengthIn, finishedIn, refusalIn, readBy, endBy}
@@ -30,16 +30,6 @@ record Small (a : Answer) : Type 0 where
   few-taken : a .taken < 2 ^ 40
   short : a .length < 2 ^ 16
   known : a .refusal < 2 ^ 7
-
-one-small : (b : Bool) → one b < 2
-unfolding one
-one-small true = omega arith
-one-small false = omega arith
-
-one-read : (b : Bool) → eqb (one b) 1 ≡ b
-unfolding one
-one-read true = refl
-one-read false = refl
 
 apart : (a : Answer) → Small a → Apart (packed a) a
 unfolding packed takenIn lengthIn finishedIn refusalIn

@@ -8,24 +8,25 @@ use native.Mathlib.Omega.{arith}
 use borrow.Author.Tests.{eqb-true, eqb-false}
 use lib.Dec.{eqb}
 use Rattle.ground.specs.Choice.{pick}
-use Rattle.text.proofs.Lists.{picked}
+use Rattle.ground.specs.First.{firstThat}
+use Rattle.ground.proofs.Bools.{neither, picked}
 use Rattle.table.specs.Decode.{tableOf}
-use Rattle.conditions.specs.Refusals.{refusal, lowest}
-use Rattle.conditions.proofs.Refused.{served, neither}
+use Rattle.refusals.specs.Refusals.{refusal, lowest}
+use Rattle.refusals.proofs.Refused.{served}
 use Rattle.session.specs.Events.{Turn, fileEnded, isDue}
 use Rattle.session.specs.Machine.{scanned, lastEnded}
 use Rattle.session.specs.Ranges.{readRefused}
 use Rattle.session.specs.declared.Session.{Session}
 use Rattle.calls.specs.Reading.{Done, awaits, finishes, refusedBy, servedBy, readServed, endServed, readDone, endDone}
 use Rattle.calls.specs.Reading.{readingRefusals, endingRefusals}
-use Rattle.protocol.proofs.Good.{Going, goes}
+use Rattle.law_protocol.proofs.Good.{Going, goes}
 
 -- what the third refusal asks
 third : (x y z : Bool) → lowest (refusal 1 x ∷ refusal 2 y ∷ refusal 3 z ∷ []) ≡ 0 → z ≡ false
 third x y z e = served 3 _ _ refl (served 2 _ _ refl (served 1 _ _ refl e .1) .1) .0
 
 at-most : (x y z : Bool) → lowest (refusal 1 x ∷ refusal 2 y ∷ refusal 3 z ∷ []) ≤ 3
-unfolding lowest
+unfolding lowest firstThat
 at-most x y z =
     picked (λ (n : ℕ). n ≤ 3) x _ _ (λ e. omega arith)
     (λ e. picked (λ (n : ℕ). n ≤ 3) y _ _ (λ e. omega arith) (λ e. picked (λ (n : ℕ). n ≤ 3) z _ _ (λ e. omega arith) (λ e. omega arith)))

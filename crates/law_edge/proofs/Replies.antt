@@ -3,19 +3,19 @@
 -- Assumes nothing.
 use Prim.Native.Nat.{ℕ}
 use mathlib.Core.Path.{_≡_, refl, sym, ap, ap₂, _∙_}
-use mathlib.Core.List.{List, [], _∷_, _++_, map}
+use mathlib.Core.List.{List, [], _∷_, map, _++_}
 use mathlib.Core.Bool.{Bool, true, false}
 use borrow.Author.Tests.{eqb-true, eqb-false, eq-eqb}
 use lib.Dec.{eqb}
 use lib.ListN.{length, take, length-replicate}
 use Rattle.ground.specs.Choice.{either, fails, pick}
-use Rattle.text.proofs.Lists.{picked}
+use Rattle.ground.proofs.Bools.{picked}
 use Rattle.session.specs.declared.Session.{Session}
 use Rattle.session_bytes.specs.Session.{sessionIn}
 use Rattle.session_bytes.proofs.Any.{fits-in}
 use Rattle.calls.specs.Reading.{Done, refusedBy, servedBy, readServed, readDone, endDone}
 use Rattle.calls.specs.Calls.{Typed, leftBy, replyBy, shownBy, repliesOver}
-use Rattle.history.specs.History.{AllTyped, none, more}
+use Rattle.law_history.specs.History.{AllTyped, none, more}
 use Rattle.edge.specs.Edge.{fixed, settingBy, addingBy, enteringBy, orderingBy, openingBy, readBy, endBy}
 use Rattle.edge.specs.Box.{BoxCall, lpSetUp, lpAdd, lpEnter, lpOrder, lpOpen, lpRead, lpEnd, callOf, boxTable, boxRoom}
 use Rattle.edge.specs.Box.{seenIn, boxReply, boxReplies, Words, AllWords, more as moreWords}

@@ -6,12 +6,12 @@ use mathlib.Core.Path.{_≡_, refl, sym, ap, ap₂, _∙_, subst}
 use mathlib.Core.Bool.{Bool}
 use mathlib.Core.List.{List, [], _∷_}
 use lib.ListN.{length, take, drop}
-use Rattle.whole.specs.WholeFile.{Given}
+use Rattle.whole_file.specs.WholeFile.{Given}
 use Rattle.session.specs.declared.Session.{Session}
 use Rattle.session_bytes.specs.Session.{sessionSize, sessionIn}
 use Rattle.calls.specs.Reading.{Done, readDone, endDone}
 use Rattle.calls.specs.Calls.{leftBy, shownBy}
-use Rattle.protocol.specs.Protocol.{Saw, seenAt, sooner, Lent, Ends, again, last, Runs, read, shut, close}
+use Rattle.law_protocol.specs.Protocol.{Saw, seenAt, sooner, Lent, Ends, again, last, Runs, read, shut, close}
 use Rattle.edge.specs.Edge.{takenIn, finishedIn}
 use Rattle.edge.specs.Box.{BoxCall, lpRead, lpEnd, callOf, boxAnswer, boxTable, boxSession, boxReply}
 use Rattle.law_edge.specs.BoxRuns.{BoxEnds, boxAgain, boxLast, BoxRuns, boxRead, boxShut, boxClose}
@@ -71,7 +71,8 @@ module _ {w : List ℕ} {c : BoxCall} {d : Done} (k : Same w c d) where
   finished : {f : Bool} → d .answer .finished ≡ f → finishedIn (boxAnswer w c) ≡ f
   finished e = k .apart .finished-is ∙ e
 
-  ends-behind : {rooms : List (List ℕ)} {at : ℕ} {l : Saw} → Ends rooms at (sessionIn (boxSession w c)) (boxTable w c) l → Ends rooms at (d .answer .session) (d .table) l
+  ends-behind : {rooms : List (List ℕ)} {at : ℕ} {l : Saw} → Ends rooms at (sessionIn (boxSession w c)) (boxTable w c) l
+      → Ends rooms at (d .answer .session) (d .table) l
   ends-behind {rooms} {at} {l} r =
       subst (λ (x : Session). Ends rooms at x (d .table) l) (k .session-says)
       (subst (λ (t : List ℕ). Ends rooms at (sessionIn (boxSession w c)) t l) (k .table-is) r)
@@ -94,30 +95,33 @@ module _ {w : List ℕ} {c : BoxCall} {d : Done} (k : Same w c d) where
       → BoxRuns ks rooms (at + takenIn (boxAnswer w c)) (boxSession w c) (boxTable w c) (drop (takenIn (boxAnswer w c)) rest) l
   runs-before {ks} {rooms} at rest {l} r =
       subst (λ (n : ℕ). BoxRuns ks rooms (at + n) (boxSession w c) (boxTable w c) (drop n rest) l) (sym (k .apart .taken-is))
-      (subst (λ (t : List ℕ). BoxRuns ks rooms (at + d .answer .taken) (boxSession w c) t (drop (d .answer .taken) rest) l) (sym (k .table-is)) r)
+      (subst (λ (t : List ℕ). BoxRuns ks rooms (at + d .answer .taken) (boxSession w c) t (drop (d .answer .taken) rest) l)
+      (sym (k .table-is)) r)
 
 -- ---- from the box to the protocol
 
 ends-of : {rooms : List (List ℕ)} {at : ℕ} {session w : List ℕ} {l : Saw} → BoxEnds rooms at session w l → length session ≡ sessionSize
     → Ends rooms at (sessionIn session) w l
-ends-of (boxAgain {rooms = rooms} {at = at} {session = session} {w = w} {l = l} room h f r) n =
+ends-of (boxAgain {rooms = rooms} {at = at} {session = session} {b = w} {l = l} room h f r) n =
     let k = same-end w session room (sessionIn session) refl n in
     subst (λ (g : List Given). Ends (room ∷ rooms) at (sessionIn session) w (sooner g l)) (sym (ends-seen k at))
     (again room h (finishes k f) (ends-behind k (ends-of r (k .session-long))))
-ends-of (boxLast {at = at} {session = session} {w = w} room h f) n =
+ends-of (boxLast {at = at} {session = session} {b = w} room h f) n =
     let k = same-end w session room (sessionIn session) refl n in
     subst (Ends (room ∷ []) at (sessionIn session) w) (sym (sees k _ _ (ends-seen k at))) (last room h (finishes k f))
 
 pub runs-of : {ks : List Lent} {rooms : List (List ℕ)} {at : ℕ} {session w rest : List ℕ} {l : Saw}
     → BoxRuns ks rooms at session w rest l → length session ≡ sessionSize
     → Runs ks rooms at (sessionIn session) w rest l
-runs-of (boxRead {ks = ks} {rooms = rooms} {at = at} {session = session} {w = w} {rest = rest} {l = l} j room h f r) n =
+runs-of (boxRead {ks = ks} {rooms = rooms} {at = at} {session = session} {b = w} {rest = rest} {l = l} j room h f r) n =
     let k = same-read w session room (sessionIn session) refl n (take j rest) in
-    subst (λ (g : List Given). Runs (record { size = j; room = room } ∷ ks) rooms at (sessionIn session) w rest (sooner g l)) (sym (reads-seen k at))
+    subst (λ (g : List Given). Runs (record { size = j; room = room } ∷ ks) rooms at (sessionIn session) w rest (sooner g l))
+    (sym (reads-seen k at))
     (read j room h (finishes k f) (runs-behind k at rest (runs-of r (k .session-long))))
-runs-of (boxShut {at = at} {session = session} {w = w} {rest = rest} j room h f) n =
+runs-of (boxShut {at = at} {session = session} {b = w} {rest = rest} j room h f) n =
     let k = same-read w session room (sessionIn session) refl n (take j rest) in
-    subst (Runs (record { size = j; room = room } ∷ []) [] at (sessionIn session) w rest) (sym (sees k _ _ (reads-seen k at))) (shut j room h (finishes k f))
+    subst (Runs (record { size = j; room = room } ∷ []) [] at (sessionIn session) w rest) (sym (sees k _ _ (reads-seen k at)))
+    (shut j room h (finishes k f))
 runs-of (boxClose e) n = close (ends-of e n)
 
 -- ---- and back
@@ -126,11 +130,11 @@ ends-to : {rooms : List (List ℕ)} {at : ℕ} {s : Session} {w : List ℕ} {l :
     → length session ≡ sessionSize
     → sessionIn session ≡ s
     → BoxEnds rooms at session w l
-ends-to (again {rooms = rooms} {at = at} {s = s} {w = w} {l = l} room h f r) session n e =
+ends-to (again {rooms = rooms} {at = at} {s = s} {b = w} {l = l} room h f r) session n e =
     let k = same-end w session room s e n in
     subst (λ (g : List Given). BoxEnds (room ∷ rooms) at session w (sooner g l)) (ends-seen k at)
     (boxAgain room h (finished k f) (ends-before k (ends-to r (boxSession w (lpEnd session room)) (k .session-long) (k .session-says))))
-ends-to (last {at = at} {s = s} {w = w} room h f) session n e =
+ends-to (last {at = at} {s = s} {b = w} room h f) session n e =
     let k = same-end w session room s e n in
     subst (BoxEnds (room ∷ []) at session w) (sees k _ _ (ends-seen k at)) (boxLast room h (finished k f))
 
@@ -138,12 +142,13 @@ pub runs-to : {ks : List Lent} {rooms : List (List ℕ)} {at : ℕ} {s : Session
     → Runs ks rooms at s w rest l → (session : List ℕ)
     → length session ≡ sessionSize → sessionIn session ≡ s
     → BoxRuns ks rooms at session w rest l
-runs-to (read {ks = ks} {rooms = rooms} {at = at} {s = s} {w = w} {rest = rest} {l = l} j room h f r) session n e =
+runs-to (read {ks = ks} {rooms = rooms} {at = at} {s = s} {b = w} {rest = rest} {l = l} j room h f r) session n e =
     let k = same-read w session room s e n (take j rest) in
     let later = runs-to r (boxSession w (lpRead session (take j rest) room)) (k .session-long) (k .session-says) in
     subst (λ (g : List Given). BoxRuns (record { size = j; room = room } ∷ ks) rooms at session w rest (sooner g l)) (reads-seen k at)
     (boxRead j room h (finished k f) (runs-before k at rest later))
-runs-to (shut {at = at} {s = s} {w = w} {rest = rest} j room h f) session n e =
+runs-to (shut {at = at} {s = s} {b = w} {rest = rest} j room h f) session n e =
     let k = same-read w session room s e n (take j rest) in
-    subst (BoxRuns (record { size = j; room = room } ∷ []) [] at session w rest) (sees k _ _ (reads-seen k at)) (boxShut j room h (finished k f))
+    subst (BoxRuns (record { size = j; room = room } ∷ []) [] at session w rest) (sees k _ _ (reads-seen k at))
+    (boxShut j room h (finished k f))
 runs-to (close x) session n e = boxClose (ends-to x session n e)

@@ -11,9 +11,9 @@ use lib.Dec.{eqb}
 use lib.ListN.{length}
 use Rattle.ground.specs.Choice.{pick, between}
 use Rattle.ground.proofs.Choices.{left, right}
-use Rattle.text.proofs.Lists.{picked}
+use Rattle.ground.proofs.Bools.{picked}
 use Rattle.calendar.specs.Dates.{realDate, realTime}
-use Rattle.answers.specs.declared.Opening.{Opening}
+use Rattle.opening.specs.declared.Opening.{Opening}
 use Rattle.session.specs.Events.{placed, nothing}
 use Rattle.session.specs.Machine.{lastEnded, opened, unopened}
 use Rattle.session.specs.Ranges.{Encodes}
@@ -24,13 +24,13 @@ use Rattle.session.proofs.Fresh.{OpeningFits, opened-encodes, unopened-encodes}
 use Rattle.session_bytes.specs.Session.{sessionSize, sessionBytes, sessionOf, isSession, sessionIn}
 use Rattle.session_bytes.proofs.Laws.{size, stored, loaded}
 use Rattle.session_bytes.proofs.Any.{encodes-in}
-use Rattle.cutting.proofs.Stays.{nothing-kept}
-use Rattle.cutting.proofs.Keeps.{keeps-scan, keeps-last, keeps-file}
-use Rattle.cutting.proofs.Ranged.{in-range, still-encodes}
+use Rattle.law_cutting.proofs.Stays.{nothing-kept}
+use Rattle.law_cutting.proofs.Keeps.{keeps-scan, keeps-last, keeps-file}
+use Rattle.law_cutting.proofs.Ranged.{in-range, still-encodes}
 use Rattle.calls.specs.Reading.{Done, awaits, finishes, refusedBy, servedBy, readServed, openingAnswer, openingGives, readDone, endDone}
 use Rattle.calls.specs.declared.Answer.{Answer}
 use Rattle.calls.specs.declared.OpenAnswer.{OpenAnswer}
-use Rattle.protocol.proofs.Opened.{Served, opening-served}
+use Rattle.law_protocol.proofs.Opened.{Served, opening-served}
 use Rattle.edge.specs.Edge.{sessionAfterOpening, sessionAfter, readBy, endBy}
 use Rattle.edge.specs.Box.{lpRead, lpEnd, boxSession}
 use Rattle.edge.proofs.Made

@@ -4,7 +4,7 @@ use mathlib.Core.Path.{_≡_, refl, sym, ap, _∙_, subst}
 use mathlib.Core.Bool.{Bool, true, false, false≢true}
 use mathlib.Core.List.{List, [], _∷_, _++_, map}
 use mathlib.Core.Logic.{_⊎_, inl, inr, ⊎-elim}
-use Prim.Native.Nat.{ℕ, _+_, _/_, _%_, _^_, _≤_, _<_}
+use Prim.Native.Nat.{ℕ, _/_, _%_, _^_, _≤_, _<_}
 use native.Mathlib.Nat.{le-trans, lt-of-lt-of-le, pow-le-pow-right}
 use native.Mathlib.Omega.{arith}
 use borrow.Author.Tests.{eqb-true}
@@ -12,15 +12,18 @@ use lib.Dec.{eqb, lit<, lit≤}
 use lib.ListN.{length, take}
 use Rattle.ground.specs.Choice.{both, either, fails, pick, between}
 use Rattle.ground.specs.Lists.{member, same}
-use Rattle.ground.proofs.Choices.{fails-false, left, right, either-left, either-right, either-cases, same-eq}
+use Rattle.ground.proofs.Choices.{fails-false, left, right, either-cases, same-eq}
+use Rattle.ground.proofs.Lists.{member-front}
 use Rattle.text.specs.Letters.{letters}
 use Rattle.text.specs.Numbers.{digitValue, decimal, decimalFrom, hex}
 use Rattle.text.proofs.Laws.{decimal-lt, hex-lt}
 use Rattle.calendar.specs.Dates.{realDate, realTime}
 use Rattle.message.specs.Layout.{Field, fields, total, offsetIn, widthIn, fieldText, layout, bankEsi, pte}
 use Rattle.message.specs.Order.{Check, firstFailing}
-use Rattle.message.specs.Rules.{formOf, formatHolds, oneOf, methods, commonRules, ownRules, obeys, valueHolds, isShort, formatFails, valueFails, eachField, formChecks}
-use Rattle.message.specs.Fields.{stampOf, dateOfStamp, transportGenerationOf, workingGenerationOf, onceFieldOf, digestFieldOf, checksumFieldOf, requestOf}
+use Rattle.message.specs.Rules.{formOf, formatHolds, oneOf, methods, commonRules, ownRules, obeys, valueHolds, isShort, formatFails}
+use Rattle.message.specs.Rules.{valueFails, eachField, formChecks}
+use Rattle.message.specs.Fields.{stampOf, dateOfStamp, transportGenerationOf, workingGenerationOf, onceFieldOf}
+use Rattle.message.specs.Fields.{requestOf}
 use Rattle.message.specs.declared.Kind.{Kind}
 use Rattle.message.specs.declared.Kind.the-variants.{Esi, Suo, Var}
 use Rattle.message.specs.declared.Extent.{Extent}
@@ -35,7 +38,8 @@ use Rattle.message.proofs.Stamps.{stamp-lt, stamp-date, stamp-time}
 
 -- ---- the layout
 
-pub totals : (total (layout Esi) ≡ 161) × (total (layout Suo) ≡ 128) × (total (layout Var) ≡ 161) × (total bankEsi ≡ 237) × (total pte ≡ 317)
+pub totals : (total (layout Esi) ≡ 161) × (total (layout Suo) ≡ 128) × (total (layout Var) ≡ 161) × (total bankEsi ≡ 237)
+    × (total pte ≡ 317)
 unfolding total layout
 totals = (refl, refl, refl, refl, refl)
 
@@ -58,14 +62,6 @@ pub once-lt : (m : List ℕ) → onceFieldOf m < 2 ^ 64
 unfolding onceFieldOf widthIn pick
 once-lt m = hex-below 150 m (lit≤ tt)
 
-pub digest-lt : (m : List ℕ) → digestFieldOf m < 2 ^ 64
-unfolding digestFieldOf widthIn pick
-digest-lt m = hex-below 160 m (lit≤ tt)
-
-pub checksum-lt : (m : List ℕ) → checksumFieldOf m < 2 ^ 64
-unfolding checksumFieldOf widthIn pick
-checksum-lt m = hex-below 170 m (lit≤ tt)
-
 pub sound-generations : (m : List ℕ) → (transportGenerationOf m < 10) × (workingGenerationOf m < 10)
 unfolding transportGenerationOf workingGenerationOf widthIn pick
 sound-generations m = (below 100 1 m (lit≤ tt), below 110 1 m (lit≤ tt))
@@ -79,18 +75,11 @@ sound-date m e = stamp-date m e
 abbrev pub numbersOf : List Field → List ℕ
 numbersOf fs = map (λ f. f .number) fs
 
-more : (n : ℕ) (a b : List ℕ) → member n a ≡ true → member n (a ++ b) ≡ true
-unfolding member
-more n [] b h = cc
-more n (x ∷ a) b h =
-    ⊎-elim (λ q. either-left (eqb x n) _ q) (λ q. either-right (eqb x n) _ (more n a b q))
-    (either-cases (eqb x n) (member n a) h)
-
 pub in-each : (k : Kind) (n : ℕ) → member n (numbersOf (take 19 fields)) ≡ true → member n (numbersOf (layout k)) ≡ true
 unfolding layout
-in-each Esi n h = more n (numbersOf (take 19 fields)) (160 ∷ 170 ∷ 180 ∷ []) h
+in-each Esi n h = member-front n (numbersOf (take 19 fields)) (160 ∷ 170 ∷ 180 ∷ []) h
 in-each Suo n h = h
-in-each Var n h = more n (numbersOf (take 19 fields)) (160 ∷ 170 ∷ 180 ∷ []) h
+in-each Var n h = member-front n (numbersOf (take 19 fields)) (160 ∷ 170 ∷ 180 ∷ []) h
 
 -- ---- a message without fault
 
@@ -159,7 +148,8 @@ module _ (k : Kind) (about : About) (m : Collected) (sound : firstFailing (formC
 
 -- what the values say of a field, by its rule
 
-value-of : (k : Kind) (n : ℕ) (m : List ℕ) → valueHolds (formOf k) n m ≡ true → (obeys (commonRules k) n m ≡ true) × (obeys (ownRules k) n m ≡ true)
+value-of : (k : Kind) (n : ℕ) (m : List ℕ) → valueHolds (formOf k) n m ≡ true → (obeys (commonRules k) n m ≡ true)
+    × (obeys (ownRules k) n m ≡ true)
 value-of k n m e = let a = sym (obeys-append (commonRules k) (ownRules k) n m) ∙ e in (left _ _ a, right _ _ a)
 
 date-real : (k : Kind) (m : List ℕ) → obeys (commonRules k) 121 m ≡ true → realDate (decimal (fieldText 121 m)) ≡ true
@@ -203,7 +193,8 @@ sound-request Var about m e w =
 
 pub sound-stamp : (k : Kind) (about : About) (m : Collected) → firstFailing (formChecks (formOf k) about m) ≡ Sound
     → length (m .text) ≡ 161
-    → (stampOf (m .text) < 10 ^ 15) × (realDate (stampOf (m .text) / 1000000000) ≡ true) × (realTime (stampOf (m .text) / 1000 % 1000000) ≡ true)
+    → (stampOf (m .text) < 10 ^ 15) × (realDate (stampOf (m .text) / 1000000000) ≡ true)
+    × (realTime (stampOf (m .text) / 1000 % 1000000) ≡ true)
 unfolding member either dateOfStamp
 sound-stamp k about m e l =
     let text = m .text in (

@@ -1,12 +1,13 @@
 -- The first failing check of a list: of lists one after the other, the first that has one decides.
 -- Assumes nothing.
-use mathlib.Core.Path.{_≡_, refl, sym, ap, _∙_}
+use mathlib.Core.Path.{_≡_, refl, ap, _∙_}
 use mathlib.Core.Bool.{Bool, true, false}
 use mathlib.Core.List.{List, [], _∷_, _++_}
 use Prim.Native.Nat.{ℕ}
 use native.Mathlib.Omega.{arith}
 use Rattle.ground.specs.Choice.{pick}
 use Rattle.ground.proofs.Choices.{picks, skips}
+use Rattle.ground.specs.First.{firstThat}
 use Rattle.message.specs.Order.{Check, firstFailing}
 use Rattle.message.specs.declared.About.{About}
 use Rattle.message.specs.declared.Fault.{Fault}
@@ -19,7 +20,7 @@ faultOf c = Found (c .code) (c .field) (c .about)
 -- ---- of lists one after the other
 
 pub first-sound : (a b : List Check) → firstFailing a ≡ Sound → firstFailing (a ++ b) ≡ firstFailing b
-unfolding firstFailing pick
+unfolding firstFailing firstThat pick
 first-sound [] b e = refl
 first-sound (c ∷ a) b e = by (c .failed) e (first-sound a b)
   where
@@ -30,7 +31,7 @@ first-sound (c ∷ a) b e = by (c .failed) e (first-sound a b)
 
 pub first-found : (a b : List Check) (code field : ℕ) (about : About) → firstFailing a ≡ Found code field about
     → firstFailing (a ++ b) ≡ Found code field about
-unfolding firstFailing pick
+unfolding firstFailing firstThat pick
 first-found [] b code field about e = absurd (let z : _≡_ {A = ℕ} 0 1 = cc in omega arith)
 first-found (c ∷ a) b code field about e = by (c .failed) e (first-found a b code field about)
   where
@@ -63,7 +64,7 @@ pub record First (cs : List Check) (code field : ℕ) (about : About) : Type 0 w
 
 -- a list is accepted if, and only if, no check of it fails
 pub accepted : (cs : List Check) → firstFailing cs ≡ Sound → NoneFails cs
-unfolding firstFailing pick
+unfolding firstFailing firstThat pick
 accepted [] e = tt
 accepted (c ∷ cs) e = by (c .failed) refl e (accepted cs)
   where
@@ -73,7 +74,7 @@ accepted (c ∷ cs) e = by (c .failed) refl e (accepted cs)
     by false p q r = (p, r q)
 
 pub none-fails : (cs : List Check) → NoneFails cs → firstFailing cs ≡ Sound
-unfolding firstFailing
+unfolding firstFailing firstThat
 none-fails [] n = refl
 none-fails (c ∷ cs) n = skips _ _ _ (n .0) ∙ none-fails cs (n .1)
 
@@ -81,8 +82,9 @@ pub accepted-iff : (cs : List Check) → (firstFailing cs ≡ Sound → NoneFail
 accepted-iff cs = (accepted cs, none-fails cs)
 
 -- a list is refused with a code and a field if, and only if, they are those of its first check that fails
-pub first-failing : (cs : List Check) (code field : ℕ) (about : About) → firstFailing cs ≡ Found code field about → First cs code field about
-unfolding firstFailing pick
+pub first-failing : (cs : List Check) (code field : ℕ) (about : About) → firstFailing cs ≡ Found code field about
+    → First cs code field about
+unfolding firstFailing firstThat pick
 first-failing [] code field about e = absurd (let z : _≡_ {A = ℕ} 0 1 = cc in omega arith)
 first-failing (c ∷ cs) code field about e = by (c .failed) refl e (first-failing cs code field about)
   where
@@ -105,7 +107,7 @@ past : (a b : List Check) → NoneFails a → firstFailing (a ++ b) ≡ firstFai
 past a b n = first-sound a b (none-fails a n)
 
 at : (c : Check) (cs : List Check) → c .failed ≡ true → firstFailing (c ∷ cs) ≡ faultOf c
-unfolding firstFailing
+unfolding firstFailing firstThat
 at c cs e = picks _ _ _ e
 
 pub found-first : (cs : List Check) (code field : ℕ) (about : About) → First cs code field about → firstFailing cs ≡ Found code field about

@@ -9,26 +9,28 @@ use native.Mathlib.Numerals.{add-one}
 use native.Mathlib.Omega.{arith}
 use borrow.Author.Tests.{eqb-true}
 use lib.Dec.{T, eqb, lit<, lit≤}
-use lib.ListN.{length, getD, take, drop, length-take, length-drop, drop-of-length-le}
-use lib.Seq.{take-all, take-nil, length-take-le}
+use lib.ListN.{length, getD, take, drop, length-drop, drop-of-length-le}
+use lib.Seq.{take-all, take-nil}
 use Rattle.ground.specs.Choice.{both, pick}
 use Rattle.ground.specs.Lists.{part, overlay}
 use Rattle.ground.proofs.Table as table
+use Rattle.ground.proofs.Lists.{part-full, part-short}
+use Rattle.ground.proofs.Bools.{tested}
 use Rattle.text.specs.Numbers.{decimal, hex}
-use Rattle.text.proofs.Lists.{passed, each}
+use Rattle.text.proofs.Lists.{each}
 use Rattle.text.proofs.Laws.{decimal-lt}
 use Rattle.calendar.proofs.Walk.{below}
-use Rattle.message.specs.Layout.{Field, field, fields, total, offsetIn, widthIn, fieldText}
+use Rattle.message.specs.Layout.{Field, laid, noField, fields, total, offsetIn, widthIn, fieldText}
 
 -- a table that agrees with a rule at each place
 pub ruled : (f : ℕ → ℕ) (n k : ℕ) → k < n → (xs : List ℕ) → length xs ≡ n → T (table.every (λ k x. eqb x (f k)) 0 xs) → getD xs k 0 ≡ f k
 ruled f n k h xs e t =
     eqb-true (getD xs k 0) (f k)
-    (passed (eqb (getD xs k 0) (f k)) (table.at (λ k x. eqb x (f k)) xs t k (rw e h)))
+    (tested (eqb (getD xs k 0) (f k)) (table.at (λ k x. eqb x (f k)) xs t k (rw e h)))
 
 -- the number of the field at a place
 abbrev pub numberAt : ℕ → ℕ
-numberAt i = getD fields i (field 0 "" 0) .number
+numberAt i = getD fields i (laid noField "" 0) .number
 
 -- the tables of the fields' numbers and of their places
 abbrev pub numbers : List ℕ
@@ -89,17 +91,9 @@ placed i m h = rw (add-one i, begins i h, wide i h)
 
 -- ---- what is read at a place
 
-part-length : (at w : ℕ) (m : List ℕ) → length (part at w m) ≤ w
-unfolding part
-part-length at w m = rw length-take (omega arith)
-
-pub part-full : (at w : ℕ) (m : List ℕ) → at + w ≤ length m → length (part at w m) ≡ w
-unfolding part
-part-full at w m h = length-take-le w (drop at m) (omega (arith, length-drop at m))
-
 pub narrow : (n : ℕ) (m : List ℕ) → length (fieldText n m) ≤ widthIn n fields
 unfolding fieldText
-narrow n m = part-length (offsetIn n fields) (widthIn n fields) m
+narrow n m = part-short (offsetIn n fields) (widthIn n fields) m
 
 -- a text that is short enough is read whole, and at most nine digits fit in 32 bits
 module _ (text : List ℕ) (r : ℕ) where
@@ -125,7 +119,7 @@ module _ (v n : ℕ) (text : List ℕ) (e : n ≡ v) (h : length text ≤ widthI
 -- the same of what a span lends
 module _ (at w : ℕ) (s m : List ℕ) (e : s ≡ part at w m) where
   s-length : length s ≤ w
-  s-length = rw e (part-length at w m)
+  s-length = rw e (part-short at w m)
 
   pub numbered : (r : ℕ) → w ≤ 19 → r ≡ decimal (take 19 s) → r ≡ decimal (part at w m)
   numbered r h q = number-whole s r (le-trans s-length h) q ∙ ap decimal e

@@ -5,15 +5,14 @@ use mathlib.Core.List.{List, [], _∷_, _++_}
 use Prim.Native.Nat.{ℕ, _+_, _*_, _/_, _%_, _^_, _≤_, _<_}
 use native.Mathlib.Nat.{add-mul, add-assoc, mul-assoc, mul-comm, zero-mul, zero-add, pow-suc}
 use native.Mathlib.Omega.{arith}
-use lib.ListN.{length, take, drop}
-use lib.Seq.{take-add, drop-drop}
+use lib.ListN.{length}
 use Rattle.ground.specs.Choice.{pick}
 use Rattle.ground.specs.Lists.{part}
+use Rattle.ground.proofs.Lists.{part-full, parted}
 use Rattle.text.specs.Numbers.{digitValue, decimal, decimalFrom}
 use Rattle.text.proofs.Laws.{decimal-nil, decimal-cons, decimal-lt}
 use Rattle.message.specs.Layout.{offsetIn, widthIn, fieldText}
 use Rattle.message.specs.Fields.{stampTextOf, stampOf, dateOfStamp}
-use Rattle.message.proofs.Places.{part-full}
 
 -- ---- digits after digits
 
@@ -45,10 +44,6 @@ joined : (w : ℕ) (l r : List ℕ) → length r ≡ w → decimal (l ++ r) ≡ 
 joined w l r e = after 0 l r ∙ raised (decimal l) r ∙ ap (λ (n : ℕ). decimal l * 10 ^ n + decimal r) e
 
 -- ---- the three parts
-
-parted : (at a b : ℕ) (m : List ℕ) → part at (a + b) m ≡ part at a m ++ part (at + a) b m
-unfolding part
-parted at a b m = take-add a b (drop at m) ∙ ap (λ (l : List ℕ). take a (drop at m) ++ take b l) (drop-drop a at m)
 
 module _ (m : List ℕ) (e : length m ≡ 161) where
   late : decimal (part 93 9 m) ≡ decimal (part 93 6 m) * 10 ^ 3 + decimal (part 99 3 m)

@@ -1,11 +1,10 @@
 -- The tests of fields: a rule asks only of the field that it names, and the first field that does not pass decides.
 -- Assumes nothing.
-use mathlib.Core.Path.{_≡_, refl, sym, ap, ap₂, _∙_}
-use mathlib.Core.Bool.{Bool, true, false, not}
+use mathlib.Core.Path.{_≡_, refl, sym, ap, _∙_}
+use mathlib.Core.Bool.{Bool, true, false}
 use mathlib.Core.List.{List, [], _∷_, _++_, map}
 use Prim.Native.Nat.{ℕ, _+_, _-_, _≤_, _<_}
 use native.Mathlib.Numerals.{add-one}
-use native.Mathlib.Omega.{arith}
 use borrow.Author.Tests.{ne-eqb}
 use lib.Dec.{eqb, lit≤}
 use lib.ListN.{length, getD, take, drop, drop-of-length-le}
@@ -13,9 +12,11 @@ use lib.Seq.{drop-cons, getD-take}
 use Rattle.ground.specs.Choice.{both, either, fails, pick}
 use Rattle.ground.specs.Lists.{member, part}
 use Rattle.ground.proofs.Choices.{join, either-left, either-decides, picks, skips}
-use Rattle.message.specs.Layout.{Field, field, fields, total, fieldText, layout}
+use Rattle.ground.proofs.Bools.{both-assoc, both-true}
+use Rattle.ground.specs.First.{firstThat}
+use Rattle.message.specs.Layout.{Field, laid, noField, fields, total, fieldText, layout}
 use Rattle.message.specs.Order.{firstFailing}
-use Rattle.message.specs.Rules.{Rule, only, formOf, obeys, formatHolds, valueHolds, isShort, formatFails, valueFails, eachField, formChecks}
+use Rattle.message.specs.Rules.{Rule, only, formOf, obeys, isShort, formatFails, valueFails, eachField, formChecks}
 use Rattle.message.specs.Passing.{passesIn, lowestBroken}
 use Rattle.message.specs.declared.Kind.{Kind}
 use Rattle.message.specs.declared.Kind.the-variants.{Esi, Suo, Var}
@@ -26,21 +27,6 @@ use Rattle.message.specs.declared.Fault.{Fault}
 use Rattle.message.specs.declared.Fault.the-variants.{Sound, Found}
 use Rattle.message.proofs.Places.{numberAt, placed}
 use Rattle.message.proofs.Order.{first-sound, first-found}
-
-both-true : (t : Bool) → both t true ≡ t
-unfolding both
-both-true true = refl
-both-true false = refl
-
-pub either-false : (t : Bool) → either t false ≡ t
-unfolding either
-either-false true = refl
-either-false false = refl
-
-pub not-fails : (t : Bool) → not t ≡ fails t
-unfolding fails
-not-fails true = refl
-not-fails false = refl
 
 -- a test that was made of some fields, by what held
 pub tested : (asked holds : Bool) {r h : Bool} → r ≡ only asked h → h ≡ holds → only asked holds ≡ r
@@ -90,14 +76,10 @@ unasked-of (r ∷ rs) n m h =
     join _ _ (either-left _ _ (ap fails (ne-eqb (r .number) n (λ p. h .0 (sym p))))) (unasked-of rs n m (h .1))
 
 -- no rule names the field
-pub unasked : (rules : Kind → List Rule) (k j : Kind) (n : ℕ) (m : List ℕ) → k ≡ j → Apart (map (λ r. r .number) (rules j)) n → true ≡ obeys (rules k) n m
+pub unasked : (rules : Kind → List Rule) (k j : Kind) (n : ℕ) (m : List ℕ) → k ≡ j → Apart (map (λ r. r .number) (rules j)) n → true
+    ≡ obeys (rules k) n m
 unasked rules k j n m e h =
     sym (ap (λ (x : Kind). obeys (rules x) n m) e ∙ unasked-of (rules j) n m h)
-
-both-assoc : (a b c : Bool) → both (both a b) c ≡ both a (both b c)
-unfolding both
-both-assoc true b c = refl
-both-assoc false b c = refl
 
 true-both : (t : Bool) → t ≡ both true t
 unfolding both
@@ -119,23 +101,23 @@ few Esi = lit≤ tt
 few Suo = lit≤ tt
 few Var = lit≤ tt
 
-same-field : (k : Kind) (i : ℕ) → i < length (layout k) → getD (layout k) i (field 0 "" 0) ≡ getD fields i (field 0 "" 0)
+same-field : (k : Kind) (i : ℕ) → i < length (layout k) → getD (layout k) i (laid noField "" 0) ≡ getD fields i (laid noField "" 0)
 unfolding layout
-same-field Esi i h = getD-take 22 fields i (field 0 "" 0) h
-same-field Suo i h = getD-take 19 fields i (field 0 "" 0) h
-same-field Var i h = getD-take 22 fields i (field 0 "" 0) h
+same-field Esi i h = getD-take 22 fields i (laid noField "" 0) h
+same-field Suo i h = getD-take 19 fields i (laid noField "" 0) h
+same-field Var i h = getD-take 22 fields i (laid noField "" 0) h
 
 module _ (passes : ℕ → Bool) (code : ℕ) (about : About) where
   broken-cons : (f : Field) (fs : List Field) → lowestBroken code about passes (f ∷ fs)
       ≡ pick (fails (passes (f .number))) (Found code (f .number) about) (lowestBroken code about passes fs)
-  unfolding eachField firstFailing
+  unfolding eachField firstFailing firstThat
   broken-cons f fs = refl
 
   next : (k : Kind) (i : ℕ) → i < length (layout k) → lowestBroken code about passes (drop i (layout k))
       ≡ pick (fails (passes (numberAt i))) (Found code (numberAt i) about) (lowestBroken code about passes (drop (i + 1) (layout k)))
   next k i h =
-      rw (add-one i, drop-cons (layout k) i (field 0 "" 0) h, same-field k i h)
-      (broken-cons (getD fields i (field 0 "" 0)) _)
+      rw (add-one i, drop-cons (layout k) i (laid noField "" 0) h, same-field k i h)
+      (broken-cons (getD fields i (laid noField "" 0)) _)
 
   -- the loop over the fields: the first i of them pass
   module _ (k : Kind) (i count : ℕ) (e : count ≡ length (layout k))
@@ -158,7 +140,7 @@ module _ (passes : ℕ → Bool) (code : ℕ) (about : About) where
       goes-on d = rest ∙ next k i within-layout ∙ skips _ _ _ (test true d)
 
     pub ends : count ≤ i → Sound ≡ lowestBroken code about passes (layout k)
-    unfolding eachField firstFailing
+    unfolding eachField firstFailing firstThat
     ends h =
         sym (rest ∙ ap (λ (l : List Field). lowestBroken code about passes l) (drop-of-length-le (layout k) (rw e at h)))
 
@@ -184,7 +166,7 @@ module _ (k : Kind) (about : About) (over : Bool) (m : List ℕ) where
       ≡ firstFailing
       (eachField 1010 about (formatFails (formOf k) Whole over m) (layout k)
       ++ eachField 1011 about (valueFails (formOf k) Whole m) (layout k))
-  unfolding formChecks isShort firstFailing pick
+  unfolding formChecks isShort firstFailing firstThat pick
   whole = refl
 
   module _ (first : Fault) (e : first ≡ lowestBroken 1010 about (passesIn false (formOf k) over m) (layout k)) where
@@ -208,21 +190,21 @@ module _ (about : About) (over : Bool) (m : List ℕ) where
   formed k extent = firstFailing (formChecks (formOf k) about (record { extent = extent; blank = over; text = m }))
 
   pub too-short : (k : Kind) → Found 1032 0 about ≡ formed k TooShort
-  unfolding formChecks isShort firstFailing pick
+  unfolding formChecks isShort firstFailing firstThat pick
   too-short k = refl
 
   pub cut-short : (k : Kind) → Found 1032 0 about ≡ formed k CutShort
-  unfolding formChecks isShort firstFailing pick
+  unfolding formChecks isShort firstFailing firstThat pick
   cut-short k = refl
 
   pub not-digits : (k : Kind) → Found 1010 20 about ≡ formed k LengthNotDigits
-  unfolding formChecks isShort formatFails eachField layout firstFailing pick
+  unfolding formChecks isShort formatFails eachField layout firstFailing firstThat pick
   not-digits Esi = refl
   not-digits Suo = refl
   not-digits Var = refl
 
   pub other-length : (k : Kind) → Found 1011 20 about ≡ formed k OtherLength
-  unfolding formChecks isShort formatFails valueFails eachField layout firstFailing pick
+  unfolding formChecks isShort formatFails valueFails eachField layout firstFailing firstThat pick
   other-length Esi = refl
   other-length Suo = refl
   other-length Var = refl

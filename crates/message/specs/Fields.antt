@@ -1,7 +1,6 @@
 -- What a message says, field by field (document 01, 'Message fields').
 -- Assumes nothing.
-use Prim.Native.Nat.{ℕ, _+_}
-use mathlib.Core.Bool.{Bool}
+use Prim.Native.Nat.{ℕ}
 use mathlib.Core.List.{List}
 use Rattle.ground.specs.Choice.{pick}
 use Rattle.ground.specs.Lists.{part, same}
@@ -9,47 +8,47 @@ use Rattle.text.specs.Numbers.{decimal, hex}
 use Rattle.text.specs.Letters.{letters}
 use Rattle.digest.specs.declared.Method.{Method}
 use Rattle.digest.specs.declared.Method.the-variants.{Skh, Ske}
-use Rattle.message.specs.Layout.{fields, offsetIn, fieldText}
+use Rattle.message.specs.Layout.{field, subfield, fields, offsetIn, fieldText}
 
 -- identity and qualifier: 25 characters from field 8.1, and from field 9.1
 unfoldable pub receiverOf : List ℕ → List ℕ
-receiverOf m = part (offsetIn 81 fields) 25 m
+receiverOf m = part (offsetIn (subfield 8 1) fields) 25 m
 
 unfoldable pub senderOf : List ℕ → List ℕ
-senderOf m = part (offsetIn 91 fields) 25 m
+senderOf m = part (offsetIn (subfield 9 1) fields) 25 m
 
 -- the fifteen digits of fields 12.1 to 12.3 as a number, and as they stand
 unfoldable pub stampTextOf : List ℕ → List ℕ
-stampTextOf m = part (offsetIn 121 fields) 15 m
+stampTextOf m = part (offsetIn (subfield 12 1) fields) 15 m
 
 unfoldable pub stampOf : List ℕ → ℕ
 stampOf m = decimal (stampTextOf m)
 
 unfoldable pub dateOfStamp : List ℕ → ℕ
-dateOfStamp m = decimal (fieldText 121 m)
+dateOfStamp m = decimal (fieldText (subfield 12 1) m)
 
 unfoldable pub versionOf : List ℕ → ℕ
-versionOf m = decimal (fieldText 30 m)
+versionOf m = decimal (fieldText (field 3) m)
 
 unfoldable pub methodOf : List ℕ → Method
-methodOf m = pick (same (fieldText 70 m) (letters "SKE")) Ske Skh
+methodOf m = pick (same (fieldText (field 7) m) (letters "SKE")) Ske Skh
 
 unfoldable pub transportGenerationOf : List ℕ → ℕ
-transportGenerationOf m = decimal (fieldText 100 m)
+transportGenerationOf m = decimal (fieldText (field 10) m)
 
 unfoldable pub workingGenerationOf : List ℕ → ℕ
-workingGenerationOf m = decimal (fieldText 110 m)
+workingGenerationOf m = decimal (fieldText (field 11) m)
 
 -- the one-time key as it came, enciphered
 unfoldable pub onceFieldOf : List ℕ → ℕ
-onceFieldOf m = hex (fieldText 150 m)
+onceFieldOf m = hex (fieldText (field 15) m)
 
 unfoldable pub digestFieldOf : List ℕ → ℕ
-digestFieldOf m = hex (fieldText 160 m)
+digestFieldOf m = hex (fieldText (field 16) m)
 
 unfoldable pub checksumFieldOf : List ℕ → ℕ
-checksumFieldOf m = hex (fieldText 170 m)
+checksumFieldOf m = hex (fieldText (field 17) m)
 
 -- the request for keys
 unfoldable pub requestOf : List ℕ → ℕ
-requestOf m = decimal (fieldText 180 m)
+requestOf m = decimal (fieldText (field 18) m)

@@ -1,6 +1,6 @@
 -- The fields of the security messages: number, name and length (document 001, table L1-1; document 01, 'Message fields').
 -- Assumes nothing.
-use Prim.Native.Nat.{ℕ, _+_}
+use Prim.Native.Nat.{ℕ, _+_, _*_, _/_}
 use Prim.Native.String.{String}
 use mathlib.Core.List.{List, [], _∷_}
 use lib.Dec.{eqb}
@@ -11,43 +11,60 @@ use Rattle.text.specs.Letters.{letters}
 use Rattle.message.specs.declared.Kind.{Kind}
 use Rattle.message.specs.declared.Kind.the-variants.{Esi, Suo, Var}
 
--- a field's number is written as ten times the number and the part: 81 is field 8.1, 20 is field 2
+-- ---- a field's number: ten times the number, and the part, so that 81 is field 8.1 and 20 is field 2
+
+abbrev pub field : ℕ → ℕ
+field n = 10 * n
+
+abbrev pub subfield : (n part : ℕ) → ℕ
+subfield n part = 10 * n + part
+
+-- where a check or a reply names no field
+abbrev pub noField : ℕ
+noField = 0
+
+-- the whole field's number: 8 of field 8.1
+abbrev pub wholeNumber : ℕ → ℕ
+wholeNumber n = n / 10
+
+-- ---- the layout
+
 pub record Field : Type 0 where
   pub number : ℕ
   pub name : List ℕ
   pub length : ℕ
 
-abbrev pub field : ℕ → String → ℕ → Field
-field n s l = record { number = n; name = letters s; length = l }
+abbrev pub laid : ℕ → String → ℕ → Field
+laid n s l = record { number = n; name = letters s; length = l }
 
 -- adjoining from offset 0
 abbrev pub fields : List Field
 fields =
-    field 10 "SANOMATUNNUS" 5 ∷
-    field 20 "SANOMAPITUUS" 3 ∷
-    field 30 "VERSIO" 3 ∷
-    field 40 "ONNISTUMISKOODI" 1 ∷
-    field 50 "ILMOITUSKOODI" 4 ∷
-    field 60 "OHJELMISTO" 16 ∷
-    field 70 "MENETELMÄ" 3 ∷
-    field 81 "VAST.TUNNUS" 17 ∷
-    field 82 "VAST.TARKENNE" 8 ∷
-    field 91 "LÄH.TUNNUS" 17 ∷
-    field 92 "LÄH.TARKENNE" 8 ∷
-    field 100 "SIIRTOAVAINNO" 1 ∷
-    field 110 "KÄYTTÖAVAINNO" 1 ∷
-    field 121 "PÄIVÄYS" 6 ∷
-    field 122 "KELLONAIKA" 6 ∷
-    field 123 "LEIMANUMERO" 3 ∷
-    field 130 "SUOJAUSALUE" 1 ∷
-    field 140 "VARALLA" 9 ∷
-    field 150 "KERTA-AVAIN" 16 ∷
-    field 160 "TIIVISTE" 16 ∷
-    field 170 "TARKISTE" 16 ∷
-    field 180 "AVAINVAIHTO" 1 ∷
-    field 190 "UUSIAVAIN" 16 ∷
-    field 200 "ILMOITUS" 60 ∷
-    field 210 "KUITTAUS" 80 ∷ []
+    laid (field 1) "SANOMATUNNUS" 5 ∷
+    laid (field 2) "SANOMAPITUUS" 3 ∷
+    laid (field 3) "VERSIO" 3 ∷
+    laid (field 4) "ONNISTUMISKOODI" 1 ∷
+    laid (field 5) "ILMOITUSKOODI" 4 ∷
+    laid (field 6) "OHJELMISTO" 16 ∷
+    laid (field 7) "MENETELMÄ" 3 ∷
+    laid (subfield 8 1) "VAST.TUNNUS" 17 ∷
+    laid (subfield 8 2) "VAST.TARKENNE" 8 ∷
+    laid (subfield 9 1) "LÄH.TUNNUS" 17 ∷
+    laid (subfield 9 2) "LÄH.TARKENNE" 8 ∷
+    laid (field 10) "SIIRTOAVAINNO" 1 ∷
+    laid (field 11) "KÄYTTÖAVAINNO" 1 ∷
+    laid (subfield 12 1) "PÄIVÄYS" 6 ∷
+    laid (subfield 12 2) "KELLONAIKA" 6 ∷
+    laid (subfield 12 3) "LEIMANUMERO" 3 ∷
+    laid (field 13) "SUOJAUSALUE" 1 ∷
+    laid (field 14) "VARALLA" 9 ∷
+    laid (field 15) "KERTA-AVAIN" 16 ∷
+    laid (field 16) "TIIVISTE" 16 ∷
+    laid (field 17) "TARKISTE" 16 ∷
+    laid (field 18) "AVAINVAIHTO" 1 ∷
+    laid (field 19) "UUSIAVAIN" 16 ∷
+    laid (field 20) "ILMOITUS" 60 ∷
+    laid (field 21) "KUITTAUS" 80 ∷ []
 
 -- the characters that the first fields of a list take
 unfoldable pub total : List Field → ℕ

@@ -2,13 +2,13 @@
 -- Assumes nothing.
 use Prim.Native.Nat.{ℕ}
 use mathlib.Core.Bool.{Bool}
-use mathlib.Core.List.{List, [], _∷_}
-use Rattle.ground.specs.Choice.{pick}
+use mathlib.Core.List.{List}
+use Rattle.ground.specs.First.{firstThat}
 use Rattle.message.specs.declared.About.{About}
 use Rattle.message.specs.declared.Fault.{Fault}
 use Rattle.message.specs.declared.Fault.the-variants.{Sound, Found}
 
--- a check: its code, the field that it names (0 for none), the message that the field is of, and whether it fails
+-- a check: its code, the field that it names (noField where none), the message that the field is of, and whether it fails
 pub record Check : Type 0 where
   pub code : ℕ
   pub field : ℕ
@@ -17,5 +17,4 @@ pub record Check : Type 0 where
 
 -- the first failing check's code, field and message; none fails in a message that is accepted
 unfoldable pub firstFailing : List Check → Fault
-firstFailing [] = Sound
-firstFailing (c ∷ cs) = pick (c .failed) (Found (c .code) (c .field) (c .about)) (firstFailing cs)
+firstFailing cs = firstThat (λ (c : Check). c .failed) (λ (c : Check). Found (c .code) (c .field) (c .about)) Sound cs

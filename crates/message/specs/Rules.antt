@@ -1,7 +1,7 @@
--- What makes a message well formed: each rule of each field is one check, in the order in which faults are told (document 01, 'Message fields',
--- 'Reading the file', 'Order of checks').
+-- What makes a message well formed: each rule of each field is one check, in the order in which faults are told (document 01,
+-- 'Message fields', 'Reading the file', 'Order of checks').
 -- Assumes nothing.
-use Prim.Native.Nat.{ℕ, _/_}
+use Prim.Native.Nat.{ℕ}
 use mathlib.Core.Bool.{Bool, true, false}
 use mathlib.Core.List.{List, [], _∷_, _++_}
 use lib.Dec.{eqb, leb}
@@ -11,7 +11,7 @@ use Rattle.text.specs.Characters.{digit, fieldCharacter, hexDigit, allBlank}
 use Rattle.text.specs.Numbers.{decimal}
 use Rattle.text.specs.Letters.{letters}
 use Rattle.calendar.specs.Dates.{realDate, realTime}
-use Rattle.message.specs.Layout.{Field, layout, layoutLength, fieldText}
+use Rattle.message.specs.Layout.{Field, field, subfield, noField, wholeNumber, layout, layoutLength, fieldText}
 use Rattle.message.specs.Order.{Check}
 use Rattle.message.specs.declared.Kind.{Kind}
 use Rattle.message.specs.declared.Kind.the-variants.{Esi, Suo, Var}
@@ -34,9 +34,9 @@ pub record Form : Type 0 where
 
 -- fields 15 to 17, where used, are sixteen of 0-9 A-F: 15 in SUO and VAR, 16 in VAR, 17 in ESI and VAR
 unfoldable pub hexFields : Kind → List ℕ
-hexFields Esi = 170 ∷ []
-hexFields Suo = 150 ∷ []
-hexFields Var = 150 ∷ 160 ∷ 170 ∷ []
+hexFields Esi = field 17 ∷ []
+hexFields Suo = field 15 ∷ []
+hexFields Var = field 15 ∷ field 16 ∷ field 17 ∷ []
 
 -- a rule on the characters of its own field
 abbrev pub rule : ℕ → (List ℕ → Bool) → Rule
@@ -56,27 +56,27 @@ methods Var = letters "SMH" ∷ []
 -- length is the layout's; version is 110 or 120; field 4 blank, 5 is 0000, 6 not all blank; method; date and time real
 unfoldable pub commonRules : Kind → List Rule
 commonRules kind =
-    rule 20 (λ text. eqb (decimal text) (layoutLength kind)) ∷
-    rule 30 (λ text. oneOf (letters "110" ∷ letters "120" ∷ []) text) ∷
-    rule 40 (λ text. allBlank text) ∷
-    rule 50 (λ text. same (letters "0000") text) ∷
-    rule 60 (λ text. fails (allBlank text)) ∷
-    rule 70 (λ text. oneOf (methods kind) text) ∷
-    rule 121 (λ text. realDate (decimal text)) ∷
-    rule 122 (λ text. realTime (decimal text)) ∷
-    rule 140 (λ text. allBlank text) ∷ []
+    rule (field 2) (λ text. eqb (decimal text) (layoutLength kind)) ∷
+    rule (field 3) (λ text. oneOf (letters "110" ∷ letters "120" ∷ []) text) ∷
+    rule (field 4) (λ text. allBlank text) ∷
+    rule (field 5) (λ text. same (letters "0000") text) ∷
+    rule (field 6) (λ text. fails (allBlank text)) ∷
+    rule (field 7) (λ text. oneOf (methods kind) text) ∷
+    rule (subfield 12 1) (λ text. realDate (decimal text)) ∷
+    rule (subfield 12 2) (λ text. realTime (decimal text)) ∷
+    rule (field 14) (λ text. allBlank text) ∷ []
 
 -- field 13 S or A (blank in ESI); 14 blank; 15 and 16 blank in ESI; 18 is 0, 1 or 2
 unfoldable pub ownRules : Kind → List Rule
 ownRules Esi =
-    rule 130 (λ text. allBlank text) ∷
-    rule 150 (λ text. allBlank text) ∷
-    rule 160 (λ text. allBlank text) ∷
-    rule 180 (λ text. oneOf (letters "0" ∷ letters "1" ∷ letters "2" ∷ []) text) ∷ []
-ownRules Suo = rule 130 (λ text. oneOf (letters "S" ∷ letters "A" ∷ []) text) ∷ []
+    rule (field 13) (λ text. allBlank text) ∷
+    rule (field 15) (λ text. allBlank text) ∷
+    rule (field 16) (λ text. allBlank text) ∷
+    rule (field 18) (λ text. oneOf (letters "0" ∷ letters "1" ∷ letters "2" ∷ []) text) ∷ []
+ownRules Suo = rule (field 13) (λ text. oneOf (letters "S" ∷ letters "A" ∷ []) text) ∷ []
 ownRules Var =
-    rule 130 (λ text. oneOf (letters "S" ∷ letters "A" ∷ []) text) ∷
-    rule 180 (λ text. oneOf (letters "0" ∷ letters "1" ∷ letters "2" ∷ []) text) ∷ []
+    rule (field 13) (λ text. oneOf (letters "S" ∷ letters "A" ∷ []) text) ∷
+    rule (field 18) (λ text. oneOf (letters "0" ∷ letters "1" ∷ letters "2" ∷ []) text) ∷ []
 
 abbrev pub formOf : Kind → Form
 formOf kind = record { fields = layout kind; hexes = hexFields kind; rules = commonRules kind ++ ownRules kind }
@@ -91,9 +91,9 @@ only asked holds = either (fails asked) holds
 -- used; characters over in a message's last record must be blank (field 2)
 unfoldable pub formatHolds : Form → Bool → ℕ → List ℕ → Bool
 formatHolds form blankOver n text =
-    both (only (leb (n / 10) 16) (all fieldCharacter text))
-    (both (only (member (n / 10) (2 ∷ 3 ∷ 5 ∷ 10 ∷ 11 ∷ 12 ∷ [])) (all digit text))
-    (both (only (member n (form .hexes)) (all hexDigit text)) (only (eqb n 20) blankOver)))
+    both (only (leb (wholeNumber n) 16) (all fieldCharacter text))
+    (both (only (member (wholeNumber n) (2 ∷ 3 ∷ 5 ∷ 10 ∷ 11 ∷ 12 ∷ [])) (all digit text))
+    (both (only (member n (form .hexes)) (all hexDigit text)) (only (eqb n (field 2)) blankOver)))
 
 -- ---- value (1011)
 
@@ -119,7 +119,7 @@ isShort CutShort = true
 unfoldable pub formatFails : Form → Extent → Bool → List ℕ → ℕ → Bool
 formatFails form Whole blankOver m n = fails (formatHolds form blankOver n (fieldText n m))
 formatFails form TooShort blankOver m n = false
-formatFails form LengthNotDigits blankOver m n = eqb n 20
+formatFails form LengthNotDigits blankOver m n = eqb n (field 2)
 formatFails form OtherLength blankOver m n = false
 formatFails form CutShort blankOver m n = false
 
@@ -127,7 +127,7 @@ unfoldable pub valueFails : Form → Extent → List ℕ → ℕ → Bool
 valueFails form Whole m n = fails (valueHolds form n m)
 valueFails form TooShort m n = false
 valueFails form LengthNotDigits m n = false
-valueFails form OtherLength m n = eqb n 20
+valueFails form OtherLength m n = eqb n (field 2)
 valueFails form CutShort m n = false
 
 -- one check for each of some fields, in their order
@@ -139,6 +139,6 @@ eachField code about broken (f ∷ fs) =
 -- 1032; 1010 lowest field first; 1011 likewise
 unfoldable pub formChecks : Form → About → Collected → List Check
 formChecks form about m =
-    (record { code = 1032; field = 0; about = about; failed = isShort (m .extent) } ∷ []) ++
+    (record { code = 1032; field = noField; about = about; failed = isShort (m .extent) } ∷ []) ++
     eachField 1010 about (formatFails form (m .extent) (m .blank) (m .text)) (form .fields) ++
     eachField 1011 about (valueFails form (m .extent) (m .text)) (form .fields)

@@ -6,12 +6,14 @@ ghost use lib.ListN.{length, take, getD};
 ghost use Rattle.ground.specs.Lists.{all, member, part};
 ghost use Rattle.text.specs.Characters.{digit, hexDigit};
 ghost use Rattle.text.specs.Letters.{letters};
-ghost use Rattle.message.specs.Layout.{field, fields, total, widthIn, fieldText, layout, layoutLength};
+ghost use Rattle.message.specs.Layout.{laid, noField, fields, total, widthIn, fieldText, layout, layoutLength};
 ghost use Rattle.message.specs.Order.{firstFailing};
 ghost use Rattle.message.specs.declared.Extent.the-variants.{Whole};
-ghost use Rattle.message.specs.Rules.{hexFields, only, oneOf, methods, commonRules, ownRules, formOf, formatHolds, obeys, valueHolds, formChecks};
+ghost use Rattle.message.specs.Rules.{hexFields, only, oneOf, methods, commonRules, ownRules, formOf, formatHolds, obeys, valueHolds};
+ghost use Rattle.message.specs.Rules.{formChecks};
 ghost use Rattle.message.specs.Passing.{passesIn, lowestBroken};
-ghost use Rattle.message.specs.Fields.{receiverOf, senderOf, stampOf, dateOfStamp, versionOf, methodOf, transportGenerationOf, workingGenerationOf, onceFieldOf, digestFieldOf, checksumFieldOf, requestOf};
+ghost use Rattle.message.specs.Fields.{receiverOf, senderOf, stampOf, dateOfStamp, versionOf, methodOf, transportGenerationOf};
+ghost use Rattle.message.specs.Fields.{workingGenerationOf, onceFieldOf, digestFieldOf, checksumFieldOf, requestOf};
 
 // The messages that customers send.
 pub enum Kind {
@@ -42,7 +44,7 @@ pub struct Collected {
     pub text: [u8; 161],
 }
 
-// No fault, or the code, the field (ten times its number, and its part; 0 where none is named) and the message that it is of.
+// No fault, or the code, the field (its number as specs/Layout.antt writes it, 0 where none is named) and the message that it is of.
 pub enum Fault {
     Sound,
     Found { code: u32, field: u32, about: About },
@@ -124,7 +126,7 @@ fn count_of(k: Kind) -> usize
 
 fn number_of(i: usize) -> u32
     requires { ⌜ i < 22 ⌝ }
-    ensures { λ r. ⌜ r ≡ getD fields i (field 0 "" 0) .number ⌝ }
+    ensures { λ r. ⌜ r ≡ getD fields i (laid noField "" 0) .number ⌝ }
 {
     NUMBERS[i]
 }

@@ -33,7 +33,8 @@ module _ (n : ℕ) (l : List ℕ) (i : ℕ) where
   here : i < length l → placeIn n (drop i l) ≡ pick (eqb (getD l i 0) n) 0 (suc (placeIn n (drop (i + 1) l)))
   here h = rw (add-one i, drop-cons l i 0 h) (place-cons n (getD l i 0) (drop (suc i) l))
 
-  pub place-more : i < length l → (getD l i 0 ≡ n → ⊥) → placeIn n l ≡ i + placeIn n (drop i l) → placeIn n l ≡ i + 1 + placeIn n (drop (i + 1) l)
+  pub place-more : i < length l → (getD l i 0 ≡ n → ⊥) → placeIn n l ≡ i + placeIn n (drop i l) → placeIn n l
+      ≡ i + 1 + placeIn n (drop (i + 1) l)
   place-more h p e =
       let f : placeIn n (drop i l) ≡ suc (placeIn n (drop (i + 1) l)) = here h ∙ skips (eqb (getD l i 0) n) _ _ (ne-eqb _ n p) in
       omega arith

@@ -34,8 +34,10 @@ pub joined-is : (size n : ℕ) (v w : List ℕ) → length v ≡ n → n ≤ siz
 unfolding padded
 joined-is size n v w e h =
     let m : n + (size - n) ≡ size = omega arith in
-    ap (λ (r : List ℕ). r ++ take (size - n) (padded size w)) (take-take n size (v ++ replicate size blank) h ∙ take-at v (replicate size blank) n e)
-    ∙ ap (λ (r : List ℕ). v ++ r) (take-take (size - n) size (w ++ replicate size blank) (omega arith) ∙ enough (size - n) size w (omega arith))
+    ap (λ (r : List ℕ). r ++ take (size - n) (padded size w)) (take-take n size (v ++ replicate size blank) h
+    ∙ take-at v (replicate size blank) n e)
+    ∙ ap (λ (r : List ℕ). v ++ r) (take-take (size - n) size (w ++ replicate size blank) (omega arith)
+    ∙ enough (size - n) size w (omega arith))
     ∙ sym (after n (size - n) v w e)
     ∙ ap (λ (j : ℕ). padded j (v ++ w)) m
 

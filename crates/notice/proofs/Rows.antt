@@ -28,7 +28,8 @@ use Rattle.notice.proofs.Padding.{filled-again}
 abbrev pub rows : {A B : Type 0} → (A → B) → List A → A → List B
 rows f l none = map f l ++ (f none ∷ [])
 
-pub row-at : {A B : Type 0} (f : A → B) (l : List A) (none : A) (d : B) (i : ℕ) → i ≤ length l → getD (rows f l none) i d ≡ f (getD l i none)
+pub row-at : {A B : Type 0} (f : A → B) (l : List A) (none : A) (d : B) (i : ℕ) → i ≤ length l → getD (rows f l none) i d
+    ≡ f (getD l i none)
 row-at f [] none d zero h = refl
 row-at f [] none d (suc i) h = absurd (omega arith)
 row-at f (x ∷ l) none d zero h = refl

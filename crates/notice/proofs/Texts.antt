@@ -69,7 +69,8 @@ module _ (code n : ℕ) where
   module _ (e : codeIn code codes .names ≡ true) where
     with-name : codeIn code codes .before ++ fieldName n ++ codeIn code codes .after ≡ textOf code n
     unfolding textOf
-    with-name = ap (λ (x : List ℕ). codeIn code codes .before ++ x ++ codeIn code codes .after) (sym (picks (codeIn code codes .names) (fieldName n) [] e))
+    with-name = ap (λ (x : List ℕ). codeIn code codes .before ++ x ++ codeIn code codes .after)
+        (sym (picks (codeIn code codes .names) (fieldName n) [] e))
 
     pub named : (code ≡ 1026 → ⊥) → codeIn code codes .before ++ fieldName n ≡ textOf code n
     named d =

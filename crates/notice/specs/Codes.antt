@@ -1,13 +1,13 @@
 -- The notice codes and their texts (document 001, table 2), K or E, and bare or full (document 01, 'Replies').
 -- Assumes nothing.
-use Prim.Native.Nat.{ℕ, _+_}
+use Prim.Native.Nat.{ℕ}
 use Prim.Native.String.{String}
 use mathlib.Core.Bool.{Bool, true, false}
 use mathlib.Core.List.{List, [], _∷_, _++_}
 use lib.Dec.{eqb}
 use Rattle.ground.specs.Choice.{pick}
 use Rattle.text.specs.Letters.{letters}
-use Rattle.message.specs.Layout.{Field, field, fields, nameIn}
+use Rattle.message.specs.Layout.{Field, field, laid, fields, nameIn}
 
 -- a code: its text before and after the field's name NNN (VVV is left out), whether it names a field, K or E, bare or full
 pub record Code : Type 0 where
@@ -78,13 +78,13 @@ codeIn n (c ∷ cs) = pick (eqb (c .code) n) c (codeIn n cs)
 
 -- the names that 1026 uses for whole groups: fields 8, 9 and 12
 abbrev pub groups : List Field
-groups = field 80 "VASTAANOTTAJA" 25 ∷ field 90 "LÄHETTÄJÄ" 25 ∷ field 120 "AIKALEIMA" 15 ∷ []
+groups = laid (field 8) "VASTAANOTTAJA" 25 ∷ laid (field 9) "LÄHETTÄJÄ" 25 ∷ laid (field 12) "AIKALEIMA" 15 ∷ []
 
 -- the field's name: 8.1 to 9.2 and 12.1 to 12.3 by their own
 unfoldable pub fieldName : ℕ → List ℕ
 fieldName n = nameIn n (fields ++ groups)
 
 -- the text of a code, with the field's name where it names one
-unfoldable pub textOf : ℕ → ℕ → List ℕ
-textOf code n =
-    codeIn code codes .before ++ pick (codeIn code codes .names) (fieldName n) [] ++ codeIn code codes .after
+unfoldable pub textOf : (code number : ℕ) → List ℕ
+textOf code number =
+    codeIn code codes .before ++ pick (codeIn code codes .names) (fieldName number) [] ++ codeIn code codes .after

@@ -10,25 +10,25 @@ use lib.Dec.{eqb}
 use lib.ListN.{length, take, drop, replicate, drop-of-length-le, length-replicate, length-take, length-drop}
 use lib.Seq.{drop-drop}
 use Rattle.ground.specs.Choice.{pick}
-use Rattle.text.proofs.Lists.{picked}
+use Rattle.ground.proofs.Bools.{picked}
 use Rattle.reply.specs.Reply.{replyLength, writtenLength}
-use Rattle.whole.specs.WholeFile.{Given}
+use Rattle.whole_file.specs.WholeFile.{Given}
 use Rattle.session.specs.Events.{Turn}
 use Rattle.session.specs.Machine.{scanned}
 use Rattle.session.specs.Told.{allTold}
 use Rattle.session.specs.declared.Session.{Session}
 use Rattle.session.specs.declared.Reply.{Reply}
-use Rattle.cutting.proofs.Cuts.{scan-taken}
+use Rattle.law_cutting.proofs.Cuts.{scan-taken}
 use Rattle.calls.specs.Reading.{Done, lengthOf, servedBy, readServed, readDone, endDone}
 use Rattle.calls.specs.Calls.{shownBy}
 use Rattle.calls.specs.Promises.{MeetsReading}
 use Rattle.calls.specs.declared.Answer.{Answer}
-use Rattle.protocol.specs.Protocol.{Saw, seenAt, sooner}
-use Rattle.protocol.specs.Ready.{Good, EndGood}
-use Rattle.protocol.proofs.Good.{read-served}
-use Rattle.protocol.proofs.Runs.{read-goes-on, read-closes}
-use Rattle.protocol.proofs.Ends.{EndCase, another-due, last-reply, file-only, lastTurn, fileTurn, end-is, again-case, finished-case}
-use Rattle.protocol.proofs.Exists.{took-some, taken-is, second-finishes}
+use Rattle.law_protocol.specs.Protocol.{Saw, seenAt, sooner}
+use Rattle.law_protocol.specs.Ready.{Good, EndGood}
+use Rattle.law_protocol.proofs.Good.{read-served}
+use Rattle.law_protocol.proofs.Runs.{read-goes-on, read-closes}
+use Rattle.law_protocol.proofs.Ends.{EndCase, another-due, last-reply, file-only, lastTurn, fileTurn, end-is, again-case, finished-case}
+use Rattle.law_protocol.proofs.Exists.{took-some, taken-is, second-finishes}
 use Rattle.receiving.specs.Steps.{Adds, seenIn, Called, sawFrom, sawEnd, over, SoFar}
 use Rattle.receiving.specs.declared.Going.{Going}
 use Rattle.receiving.proofs.Keeping.{adds-then, adds-as, so-far-more, so-far-as}

@@ -9,12 +9,15 @@ use borrow.Author.Tests.{leb-false}
 use lib.Dec.{leb}
 use lib.ListN.{length, length-append}
 use Rattle.ground.specs.Choice.{pick}
-use Rattle.text.proofs.Lists.{picked}
+use Rattle.ground.proofs.Bools.{picked}
 use Rattle.table.specs.Table.{Table}
 use Rattle.reply.specs.declared.Answering.{Answering}
-use Rattle.answers.specs.declared.Opening.{Opening}
-use Rattle.whole.specs.Records.{Item, line, pastSize, lastItem, grown, endedBy, itemsFrom}
-use Rattle.whole.specs.WholeFile.{Opened, Situation, beforeEsi, collectingEsi, outside, collectingSuo, inFrame, collectingVar, closed, Standing, Step, silent, replies, esiSays, pteSays, esiEnds, suoEnds, varEnds, esiGoesOn, suoGoesOn, varGoesOn, esiStarts, suoStarts, varStarts, firstRecord, outsideRecord, frameRecord, recordIn, pastIn, endIn, givenAt, sooner, toldOf, atStart, wholeFile}
+use Rattle.opening.specs.declared.Opening.{Opening}
+use Rattle.whole_file.specs.Records.{Item, line, pastSize, lastItem, grown, endedBy, itemsFrom}
+use Rattle.whole_file.specs.WholeFile.{Opened, Situation, beforeEsi, collectingEsi, outside, collectingSuo, inFrame, collectingVar, closed}
+use Rattle.whole_file.specs.WholeFile.{Standing, Step, silent, replies, esiSays, pteSays, esiEnds, suoEnds, varEnds, esiGoesOn, suoGoesOn}
+use Rattle.whole_file.specs.WholeFile.{varGoesOn, esiStarts, suoStarts, varStarts, firstRecord, outsideRecord, frameRecord, recordIn}
+use Rattle.whole_file.specs.WholeFile.{pastIn, endIn, givenAt, sooner, toldOf, atStart, wholeFile}
 
 -- ---- items
 

@@ -9,11 +9,11 @@ use borrow.Author.Tests.{lt-ltb, le-ltb, ltb-true, ltb-false, eq-eqb, ne-eqb}
 use lib.Dec.{ltb}
 use lib.ListN.{length, take, drop, set, length-set, length-append}
 use Rattle.ground.proofs.Choices.{picks, skips}
-use Rattle.text.proofs.Lists.{picked}
+use Rattle.ground.proofs.Bools.{picked}
 use Rattle.splices.specs.Bytes.{put}
 use Rattle.splices.proofs.Splice.{put-length}
-use Rattle.whole.specs.WholeFile.{Given}
-use Rattle.protocol.specs.Protocol.{Saw, sooner}
+use Rattle.whole_file.specs.WholeFile.{Given}
+use Rattle.law_protocol.specs.Protocol.{Saw, sooner}
 use Rattle.receiving.specs.Receiving.{smaller, capacity, repliesFrom, placesFrom}
 use Rattle.receiving.specs.Steps.{Adds, seenIn, over, SoFar}
 

@@ -10,16 +10,16 @@ use lib.ListN.{length}
 use Rattle.ground.proofs.Choices.{picks, skips}
 use Rattle.table.specs.Table.{withDay}
 use Rattle.table.specs.Decode.{tableOf}
-use Rattle.answers.specs.declared.Opening.{Opening}
+use Rattle.opening.specs.declared.Opening.{Opening}
 use Rattle.session.specs.Told.{Answered}
-use Rattle.register.proofs.Laws.{refused-leaves}
+use Rattle.table_calls.proofs.Laws.{refused-leaves}
 use Rattle.calls.specs.Reading.{openingAnswer, openingGives, openingLeaves}
 use Rattle.calls.specs.Promises.{MeetsOpen}
 use Rattle.calls.specs.declared.OpenAnswer.{OpenAnswer}
-use Rattle.protocol.specs.Protocol.{Saw}
-use Rattle.protocol.specs.Ready.{Good, EndGood}
-use Rattle.protocol.proofs.Opened.{good-opened}
-use Rattle.protocol.proofs.Cutting.{all-told}
+use Rattle.law_protocol.specs.Protocol.{Saw}
+use Rattle.law_protocol.specs.Ready.{Good, EndGood}
+use Rattle.law_protocol.proofs.Opened.{good-opened}
+use Rattle.law_protocol.proofs.Cutting.{all-told}
 use Rattle.receiving.specs.Receiving.{received, capacity, repliesFrom, placesFrom, repliesKept, placesKept}
 use Rattle.receiving.specs.Steps.{Adds, sawFrom, sawEnd, over, AllRead}
 use Rattle.receiving.specs.declared.Going.{Going}

@@ -10,18 +10,18 @@ use Rattle.splices.specs.Bytes.{put}
 use Rattle.table.specs.Table.{withDay}
 use Rattle.table.specs.Written.{written}
 use Rattle.table.specs.Decode.{tableOf}
-use Rattle.answers.specs.declared.Opening.{Opening}
-use Rattle.whole.specs.WholeFile.{Given, Told, wholeFile}
+use Rattle.opening.specs.declared.Opening.{Opening}
+use Rattle.whole_file.specs.WholeFile.{Given, Told, wholeFile}
 use Rattle.calls.specs.Reading.{openingAnswer}
-use Rattle.protocol.specs.Protocol.{Saw}
+use Rattle.law_protocol.specs.Protocol.{Saw}
 
 -- ---- what a file gives
 
 -- the replies with their places, and the table at the end; a refused opening gives none, and leaves every byte
 unfoldable pub received : List ℕ → Opening → List ℕ → Saw
 received b o file =
-    let w : Told = wholeFile o (withDay (tableOf b) (o .today .yymmdd)) file in
-    pick (eqb (openingAnswer b o) 0) (record { given = w .given; table = written b (w .standing .table) })
+    let told : Told = wholeFile o (withDay (tableOf b) (o .today .yymmdd)) file in
+    pick (eqb (openingAnswer b o) 0) (record { given = told .given; table = written b (told .standing .table) })
     (record { given = []; table = b })
 
 -- ---- what is kept of it

@@ -4,7 +4,7 @@ ghost use Prim.Native.Nat.{_+_, _<_, _≤_, _^_};
 ghost use mathlib.Core.List.{[], _∷_};
 ghost use lib.ListN.{length, replicate};
 ghost use Rattle.calls.specs.Reading.{openingAnswer, readDone, endDone};
-ghost use Rattle.protocol.specs.Ready.{Good, EndGood};
+ghost use Rattle.law_protocol.specs.Ready.{Good, EndGood};
 ghost use Rattle.receiving.specs.Receiving.{received, capacity, repliesKept, placesKept};
 ghost use Rattle.receiving.specs.Steps.{Adds, seenIn, Called, sawFrom, sawEnd, AllRead};
 
@@ -37,7 +37,7 @@ fn capacity_of(replies: &[u8], places: &[u64]) -> usize
 
 // Keeps reply number `count` and its place, if the buffers hold so many.
 fn keep(replies: &mut [u8], places: &mut [u64], count: usize, at: usize, reply: &[u8])
-    requires { ⌜ count + 1 < 2 ^ 64 ⌝ }
+    requires { ⌜ (count + 1 < 2 ^ 64) × (length (now reply) ≤ 317) ⌝ }
     ensures { λ _.
         ⌜ Adds (record { at = at; reply = now (reply .entry) } ∷ []) count (now (replies .entry)) (now (places .entry)) (count + 1)
         (now (replies .exit)) (now (places .exit)) ⌝ }
@@ -45,7 +45,7 @@ fn keep(replies: &mut [u8], places: &mut [u64], count: usize, at: usize, reply: 
     if capacity_of(replies, places) <= count {
         return;
     }
-    splices::write_bytes(replies, 317 * count, reply);
+    codec::write_bytes(replies, 317 * count, reply);
     places[count] = at as u64;
 }
 
@@ -87,7 +87,7 @@ fn one_read(
         r (now (t .exit)) (now (replies .exit)) (now (places .exit)) ⌝ }
 {
     let mut room = [0u8; 317];
-    let a = front::read(t, s, input, &mut room);
+    let a = calls::read(t, s, input, &mut room);
     let session = a.session;
     let reached = at + a.taken;
     let more = note(replies, places, count, reached, room, a.length);
@@ -165,7 +165,7 @@ fn one_end(
         r (now (t .exit)) (now (replies .exit)) (now (places .exit)) ⌝ }
 {
     let mut room = [0u8; 317];
-    let a = front::end(t, s, &mut room);
+    let a = calls::end(t, s, &mut room);
     let session = a.session;
     let more = note(replies, places, count, at, room, a.length);
     Going {
@@ -207,7 +207,7 @@ fn end_all(
 // times i in `replies` with its place in `places`; those that the buffers do not hold are counted alone.
 pub fn receive(
     t: &mut [u8],
-    o: answers::Opening,
+    o: opening::Opening,
     file: &[u8],
     size: usize,
     replies: &mut [u8],
@@ -226,7 +226,7 @@ pub fn receive(
         ≡ placesKept (capacity (now (replies .entry)) (now (places .entry))) (received (now (t .entry)) o (now (file .entry)) .given)
         (now (places .entry)) ⌝ }
 {
-    let a = front::open(t, o);
+    let a = calls::open(t, o);
     if a.refusal != 0 {
         return Received {
             refusal: a.refusal,

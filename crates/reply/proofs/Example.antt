@@ -11,7 +11,7 @@ use Rattle.text.specs.Letters.{letters}
 use Rattle.changeover.specs.declared.Key.the-variants.{Missing}
 use Rattle.message.specs.Layout.{nameIn}
 use Rattle.notice.specs.Codes.{codeIn, fieldName, textOf}
-use Rattle.reply.specs.Reply.{clockText, noticeOf, hexOr, sealedFlag, opening, bareBody, head, checksumKey, enclosedKey, replyOf}
+use Rattle.reply.specs.Reply.{clockText, noticeOf, hexOr, checksumKey, enclosedKey, sealedFlag, joined, replyOf}
 use Rattle.reply.specs.declared.Answering.{Answering}
 
 -- bank 003701234567, software FRONT 4, 09:15:00, code 1010 on field 1
@@ -36,5 +36,6 @@ pub hello-reply : replyOf hello ≡
     letters ">>ESI237120E1010FRONT 4" ++ replicate 9 blank ++ letters "SMH" ++ replicate 25 blank ++ letters "003701234567"
     ++ replicate 13 blank ++ letters "00000000000000000" ++ replicate 58 blank ++ letters "0" ++ replicate 16 blank
     ++ letters "09:15:00 MUOTOVIRHE KENTÄSSÄ SANOMATUNNUS" ++ replicate 19 blank
-unfolding hello pick padded decimalDigits letters nameIn codeIn fieldName textOf clockText noticeOf hexOr sealedFlag opening bareBody head checksumKey enclosedKey replyOf
+unfolding hello pick padded decimalDigits letters nameIn codeIn fieldName textOf clockText noticeOf hexOr checksumKey enclosedKey
+    sealedFlag joined replyOf
 hello-reply = refl

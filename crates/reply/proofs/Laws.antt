@@ -2,7 +2,7 @@
 -- Assumes nothing.
 use mathlib.Core.Path.{_≡_, refl, sym, ap, _∙_}
 use mathlib.Core.Bool.{Bool, true, false}
-use mathlib.Core.List.{List, [], _++_, append-assoc}
+use mathlib.Core.List.{List, [], _∷_, _++_, append-assoc}
 use Prim.Native.Nat.{ℕ, _+_, _≤_}
 use native.Mathlib.Omega.{arith}
 use borrow.Author.Tests.{leb-true, le-leb}
@@ -12,20 +12,54 @@ use lib.Seq.{take-at, drop-at, take-all}
 use Rattle.ground.specs.Choice.{pick}
 use Rattle.ground.specs.Lists.{part, overlay}
 use Rattle.ground.proofs.Choices.{picks, skips}
+use Rattle.ground.proofs.Lists.{part-full, pick-length}
+use Rattle.ground.proofs.Bools.{picked}
 use Rattle.text.specs.Characters.{blank}
 use Rattle.text.specs.Letters.{letters}
 use Rattle.text.specs.Numbers.{decimalDigits, hexDigits}
-use Rattle.text.proofs.Lists.{picked}
 use Rattle.digest.specs.Mac.{checksumOf}
 use Rattle.changeover.specs.declared.Key.{Key}
 use Rattle.changeover.specs.declared.Key.the-variants.{Missing, Is}
 use Rattle.message.specs.Layout.{fieldText, offsetIn, widthIn}
 use Rattle.message.specs.Fields.{receiverOf, senderOf, stampTextOf}
 use Rattle.notice.specs.Codes.{codeIn, codes}
-use Rattle.reply.specs.Reply.{hexOr, sealedFlag, opening, fullBody, bareBody, head, summed, checksumKey, enclosedKey, noticeOf, replyOf, replyLength, replied, writtenLength}
+use Rattle.reply.specs.Reply.{noticeOf, hexOr, summed, checksumKey, enclosedKey, sealedFlag, Said, said, joined, openingFields}
+use Rattle.reply.specs.Reply.{fullFields, bareFields, bodyFields, head, closingFields, replyOf, replyLength, replied, writtenLength}
 use Rattle.reply.specs.declared.Answering.{Answering}
 use Rattle.reply.proofs.Keys.{hex-or-length, flag-length}
-use Rattle.reply.proofs.Widths.{pick-length, part-length, tag-length, opening-length, bare-length, full-length, notice-length}
+use Rattle.reply.proofs.Widths.{spread, tag-length, opening-length, bare-length, full-groups, full-length}
+use Rattle.reply.proofs.Widths.{notice-length}
+
+-- ---- the reply in parts
+
+pub head-split : (a : Answering) → head a ≡ joined (openingFields a) ++ joined (bodyFields a)
+unfolding head
+head-split a = spread (openingFields a) (bodyFields a)
+
+receipt-joined : (pte : Bool) → joined (pick pte (said 210 (replicate 80 blank) ∷ []) []) ≡ pick pte (replicate 80 blank) []
+unfolding joined pick
+receipt-joined true = refl
+receipt-joined false = refl
+
+-- what comes after the checksum
+abbrev pub rest : Answering → List ℕ
+rest a = sealedFlag (enclosedKey a) ++ (hexOr (enclosedKey a) ++ (noticeOf a ++ pick (a .pte) (replicate 80 blank) []))
+
+closing-joined : (a : Answering) → joined (closingFields a) ≡ hexOr (checksumKey a (head a)) ++ rest a
+unfolding joined
+closing-joined a =
+    ap (λ (r : List ℕ). hexOr (checksumKey a (head a)) ++ (sealedFlag (enclosedKey a) ++ (hexOr (enclosedKey a) ++ (noticeOf a ++ r))))
+    (receipt-joined (a .pte))
+
+pub reply-split : (a : Answering) → replyOf a ≡ head a ++ (hexOr (checksumKey a (head a)) ++ rest a)
+unfolding replyOf head
+reply-split a =
+    spread (openingFields a ++ bodyFields a) (closingFields a) ∙ ap (λ (r : List ℕ). head a ++ r) (closing-joined a)
+
+-- as it is written, part after part
+pub reply-joined : (a : Answering) → head a ++ hexOr (checksumKey a (head a)) ++ sealedFlag (enclosedKey a) ++ hexOr (enclosedKey a)
+    ++ noticeOf a ++ pick (a .pte) (replicate 80 blank) [] ≡ replyOf a
+reply-joined a = sym (reply-split a ∙ simp append-assoc)
 
 -- ---- lengths
 
@@ -41,19 +75,32 @@ least-length a = omega (arith, receipt-length (a .pte))
 
 module _ (a : Answering) (bank : length (a .bank) ≡ 25) (software : length (a .software) ≡ 16) (message : length (a .message) ≡ 161)
     (closing : length (a .closing) ≡ 161) where
-  body-length : length (pick (a .bare) (bareBody a) (fullBody a)) ≡ 109
-  body-length = pick-length (a .bare) (bareBody a) (fullBody a) 109 (bare-length a bank) (full-length a message closing)
+  body-length : length (joined (bodyFields a)) ≡ 109
+  body-length =
+      picked (λ (x : List Said). length (joined x) ≡ 109) (a .bare) (bareFields a) (fullFields a)
+      (λ e. bare-length a bank)
+      (λ e. full-length a message closing)
 
   pub head-length : length (head a) ≡ 144
-  unfolding head
   head-length =
-      length-append (opening a) (pick (a .bare) (bareBody a) (fullBody a)) ∙ omega (arith, opening-length a software, body-length)
+      ap length (head-split a)
+      ∙ length-append (joined (openingFields a)) (joined (bodyFields a))
+      ∙ omega (arith, opening-length a software, body-length)
 
   pub reply-length : length (replyOf a) ≡ replyLength a
-  unfolding replyOf replyLength
+  unfolding replyLength
   reply-length =
-      simp length-append
-      (omega (arith, head-length, hex-or-length (checksumKey a (head a)), flag-length (enclosedKey a), hex-or-length (enclosedKey a), notice-length a, receipt-length (a .pte)))
+      ap length (reply-split a)
+      ∙ simp length-append
+      (omega (
+        arith,
+        head-length,
+        hex-or-length (checksumKey a (head a)),
+        flag-length (enclosedKey a),
+        hex-or-length (enclosedKey a),
+        notice-length a,
+        receipt-length (a .pte),
+      ))
 
 -- ---- what stands in the fields
 
@@ -63,17 +110,9 @@ unfolding part
 between x v y l at n e f g =
     ap (λ (r : List ℕ). take n (drop at r)) e ∙ ap (take n) (drop-at x (v ++ y) at f) ∙ take-at v y n g
 
--- what comes after the checksum
-abbrev pub rest : Answering → List ℕ
-rest a = sealedFlag (enclosedKey a) ++ (hexOr (enclosedKey a) ++ (noticeOf a ++ pick (a .pte) (replicate 80 blank) []))
-
-pub reply-split : (a : Answering) → replyOf a ≡ head a ++ (hexOr (checksumKey a (head a)) ++ rest a)
-unfolding replyOf
-reply-split a = simp append-assoc
-
 -- the opening's first three fields take eleven characters, and field 4 follows
 abbrev tag : Answering → List ℕ
-tag a = pick (a .pte) (letters ">>PTE317") (letters ">>ESI237") ++ letters "120"
+tag a = pick (a .pte) (letters ">>PTE") (letters ">>ESI") ++ pick (a .pte) (letters "317") (letters "237") ++ letters "120"
 
 -- K or E
 abbrev pub success : Answering → List ℕ
@@ -83,10 +122,14 @@ pub success-length : (a : Answering) → length (success a) ≡ 1
 unfolding letters
 success-length a = pick-length (codeIn (a .code) codes .accepted) (letters "K") (letters "E") 1 refl refl
 
-opened : (a : Answering) → replyOf a ≡ tag a ++ (success a ++ (decimalDigits 4 (a .code) ++ (a .software ++ (letters "SMH"
-    ++ (pick (a .bare) (bareBody a) (fullBody a) ++ (hexOr (checksumKey a (head a)) ++ rest a))))))
-unfolding head opening
-opened a = reply-split a ∙ simp append-assoc
+-- what comes after field 4
+abbrev after-success : Answering → List Said
+after-success a =
+    said 50 (decimalDigits 4 (a .code)) ∷ said 60 (a .software) ∷ said 70 (letters "SMH") ∷ (bodyFields a ++ closingFields a)
+
+opened : (a : Answering) → replyOf a ≡ tag a ++ (success a ++ joined (after-success a))
+unfolding replyOf joined
+opened a = simp append-assoc
 
 pub success-is : (a : Answering) → part 11 1 (replyOf a) ≡ success a
 success-is a = between (tag a) (success a) _ (replyOf a) 11 1 (opened a) (tag-length (a .pte)) (success-length a)
@@ -120,7 +163,14 @@ before-stamp-length : (m : List ℕ) → length m ≡ 161 → length (senderOf m
 before-stamp-length m h =
     ap length (before-stamp m)
     ∙ simp length-append
-    (omega (arith, part-length 60 25 m (omega arith), part-length 35 25 m (omega arith), part-length 85 1 m (omega arith), part-length 86 1 m (omega arith)))
+    (omega (
+      arith,
+      part-full 60 25 m (omega arith),
+      part-full 35 25 m (omega arith),
+      part-full 85 1 m (omega arith),
+      part-full
+          86 1 m (omega arith),
+    ))
 
 module _ (a : Answering) (full : a .bare ≡ false) where
   -- what comes after the stamp
@@ -130,31 +180,32 @@ module _ (a : Answering) (full : a .bare ≡ false) where
       ++ (replicate 9 blank
       ++ (fieldText 150 (a .message) ++ (fieldText 160 (a .closing) ++ (hexOr (checksumKey a (head a)) ++ rest a))))
 
-  full-head : head a ≡ opening a ++ fullBody a
-  unfolding head
-  full-head = ap (λ (x : List ℕ). opening a ++ x) (skips (a .bare) (bareBody a) (fullBody a) full)
+  full-body : joined (bodyFields a) ≡ joined (fullFields a)
+  full-body = ap joined (skips (a .bare) (bareFields a) (fullFields a) full)
 
-  full-split : replyOf a ≡ opening a ++ (senderOf (a .message) ++ (receiverOf (a .message) ++ (fieldText 100 (a .message)
+  full-split : replyOf a ≡ joined (openingFields a) ++ (senderOf (a .message) ++ (receiverOf (a .message) ++ (fieldText 100 (a .message)
       ++ (fieldText 110 (a .message) ++ (stampTextOf (a .message) ++ after-stamp)))))
-  unfolding fullBody
   full-split =
-      reply-split a ∙ ap (λ (x : List ℕ). x ++ (hexOr (checksumKey a (head a)) ++ rest a)) full-head ∙ simp append-assoc
+      reply-split a
+      ∙ ap (λ (x : List ℕ). x ++ (hexOr (checksumKey a (head a)) ++ rest a))
+      (head-split a ∙ ap (λ (x : List ℕ). joined (openingFields a) ++ x) (full-body ∙ full-groups a))
+      ∙ simp append-assoc
 
   module _ (software : length (a .software) ≡ 16) (message : length (a .message) ≡ 161) where
     -- field 8 repeats the message's sender
     pub reply-sender : part 35 25 (replyOf a) ≡ senderOf (a .message)
     reply-sender =
-        between (opening a) (senderOf (a .message)) _ (replyOf a) 35 25 full-split (opening-length a software)
-        (ap length (sender-part (a .message)) ∙ part-length 60 25 (a .message) (omega arith))
+        between (joined (openingFields a)) (senderOf (a .message)) _ (replyOf a) 35 25 full-split (opening-length a software)
+        (ap length (sender-part (a .message)) ∙ part-full 60 25 (a .message) (omega arith))
 
     -- field 12 repeats the message's stamp
     pub reply-stamp : part 87 15 (replyOf a) ≡ stampTextOf (a .message)
     reply-stamp =
         let m = a .message in
         let x : List ℕ = senderOf m ++ receiverOf m ++ fieldText 100 m ++ fieldText 110 m in
-        between (opening a ++ x) (stampTextOf m) after-stamp (replyOf a) 87 15 (full-split ∙ simp append-assoc)
-        (length-append (opening a) x ∙ omega (arith, opening-length a software, before-stamp-length m message))
-        (ap length (stamp-part m) ∙ part-length 87 15 m (omega arith))
+        between (joined (openingFields a) ++ x) (stampTextOf m) after-stamp (replyOf a) 87 15 (full-split ∙ simp append-assoc)
+        (length-append (joined (openingFields a)) x ∙ omega (arith, opening-length a software, before-stamp-length m message))
+        (ap length (stamp-part m) ∙ part-full 87 15 m (omega arith))
 
   module _ (bank : length (a .bank) ≡ 25) (software : length (a .software) ≡ 16) (message : length (a .message) ≡ 161)
       (closing : length (a .closing) ≡ 161) (k : ℕ) (key : a .working ≡ Is k) where
@@ -169,7 +220,8 @@ module _ (a : Answering) (full : a .bare ≡ false) where
     reply-sum =
         let n : length (head a) ≡ 144 = head-length a bank software message closing in
         let h : take 144 (replyOf a) ≡ head a = ap (take 144) (reply-split a) ∙ take-at (head a) _ 144 n in
-        between (head a) (hexOr (checksumKey a (head a))) (rest a) (replyOf a) 144 16 (reply-split a) n (hex-or-length (checksumKey a (head a)))
+        between (head a) (hexOr (checksumKey a (head a))) (rest a) (replyOf a) 144 16 (reply-split a) n
+        (hex-or-length (checksumKey a (head a)))
         ∙ ap hexOr summed-is
         ∙ ap (λ (x : List ℕ). hexDigits 16 (checksumOf k x)) (sym h)
 
@@ -187,9 +239,11 @@ rest-stays a bank software message closing room =
     n : length (replyOf a) ≡ replyLength a
     n = reply-length a bank software message closing
 
-    fits : replyLength a ≤ length room → drop (replyLength a) (take (length room) (replyOf a) ++ drop (length (replyOf a)) room) ≡ drop (replyLength a) room
+    fits : replyLength a ≤ length room → drop (replyLength a) (take (length room) (replyOf a) ++ drop (length (replyOf a)) room)
+        ≡ drop (replyLength a) room
     fits h =
-        ap (λ (x : List ℕ). drop (replyLength a) (x ++ drop (length (replyOf a)) room)) (take-all (length room) (replyOf a) (omega (arith, n)))
+        ap (λ (x : List ℕ). drop (replyLength a) (x ++ drop (length (replyOf a)) room))
+        (take-all (length room) (replyOf a) (omega (arith, n)))
         ∙ drop-at (replyOf a) (drop (length (replyOf a)) room) (replyLength a) n
         ∙ ap (λ (k : ℕ). drop k room) n
 

@@ -1,27 +1,21 @@
 -- What is written part after part is the parts joined, since each part starts where the one before it ended.
 -- Assumes nothing.
 use mathlib.Core.Path.{_≡_, refl, sym, ap, _∙_}
-use mathlib.Core.List.{List, [], _++_, append-assoc, append-nil}
-use Prim.Native.Nat.{ℕ, _+_, _-_, _≤_}
+use mathlib.Core.List.{List, [], _++_, append-assoc}
+use Prim.Native.Nat.{ℕ, _+_, _≤_}
 use native.Mathlib.Nat.{zero-add}
 use native.Mathlib.Omega.{arith}
 use borrow.Rule.Slice.PartMut.{putMid}
-use lib.ListN.{length, take, drop, length-append, length-drop, drop-of-length-le, replicate, length-replicate}
+use lib.ListN.{length, take, drop, length-append, length-drop, replicate, length-replicate}
 use lib.Seq.{length-take-le, take-at, drop-drop, take-all, paste-zero}
 use Rattle.ground.specs.Lists.{overlay}
+use Rattle.ground.proofs.Lists.{overlay-all}
 use Rattle.text.specs.Characters.{blank}
 use Rattle.splices.specs.Bytes.{splice}
 use Rattle.splices.proofs.Splice.{splice-length, splice-splice}
 use Rattle.reply.specs.Putting.{Put}
 
 -- ---- one part, and a part after a part
-
-pub overlay-all : (v l : List ℕ) → length v ≡ length l → overlay v l ≡ v
-unfolding overlay
-overlay-all v l e =
-    ap (λ (x : List ℕ). take (length l) v ++ x) (drop-of-length-le l {i = length v} (omega arith))
-    ∙ append-nil (take (length l) v)
-    ∙ take-all (length l) v (omega arith)
 
 module _ (at k : ℕ) (room : List ℕ) (h : at + k ≤ length room) where
   lent-length : length (take k (drop at room)) ≡ k

@@ -9,7 +9,8 @@ ghost use Rattle.text.specs.Characters.{blank};
 ghost use Rattle.text.specs.Numbers.{decimalDigits};
 ghost use Rattle.text.specs.Letters.{letters};
 ghost use Rattle.changeover.specs.declared.Key.the-variants.{Is};
-ghost use Rattle.reply.specs.Reply.{clockText, noticeOf, hexOr, sealed, sealedFlag, opening, fullBody, bareBody, head, checksumKey, enclosedKey, replyOf, replyLength, replied, writtenLength};
+ghost use Rattle.reply.specs.Reply.{clockText, noticeOf, hexOr, sealed, sealedFlag, joined, openingFields, fullFields, bareFields};
+ghost use Rattle.reply.specs.Reply.{bodyFields, head, checksumKey, enclosedKey, replyOf, replyLength, replied, writtenLength};
 ghost use Rattle.reply.specs.Putting.{Put, marks};
 
 // What a reply answers: ESI or PTE, bare or full, code and field, the opening's time, the bank and its software, the message (a frame's
@@ -112,7 +113,7 @@ fn put_marks(out: &mut [u8], pte: bool, code: u32) -> usize
 // Fields 1 to 7.
 fn put_opening(out: &mut [u8], a: Answering) -> usize
     requires { ⌜ 35 ≤ length (now out) ⌝ }
-    ensures { λ r. ⌜ Put 0 (opening a) (now (out .entry)) (now (out .exit)) r ⌝ }
+    ensures { λ r. ⌜ Put 0 (joined (openingFields a)) (now (out .entry)) (now (out .exit)) r ⌝ }
 {
     let software = a.software;
     let n = put_marks(out, a.pte, a.code);
@@ -133,7 +134,7 @@ fn put_part(out: &mut [u8], at: usize, m: [u8; 161], from: usize, n: usize) -> u
 // Fields 8 to 16, of the message and of the one that closed it.
 fn put_full(out: &mut [u8], at: usize, a: Answering) -> usize
     requires { ⌜ at + 109 ≤ length (now out) ⌝ }
-    ensures { λ r. ⌜ Put at (fullBody a) (now (out .entry)) (now (out .exit)) r ⌝ }
+    ensures { λ r. ⌜ Put at (joined (fullFields a)) (now (out .entry)) (now (out .exit)) r ⌝ }
 {
     let message = a.message;
     let n = put_part(out, at, message, 60, 25);
@@ -147,7 +148,7 @@ fn put_full(out: &mut [u8], at: usize, a: Answering) -> usize
 
 fn put_bare(out: &mut [u8], at: usize, a: Answering) -> usize
     requires { ⌜ at + 109 ≤ length (now out) ⌝ }
-    ensures { λ r. ⌜ Put at (bareBody a) (now (out .entry)) (now (out .exit)) r ⌝ }
+    ensures { λ r. ⌜ Put at (joined (bareFields a)) (now (out .entry)) (now (out .exit)) r ⌝ }
 {
     let bank = a.bank;
     let n = put_blanks(out, at, 25);
@@ -158,7 +159,7 @@ fn put_bare(out: &mut [u8], at: usize, a: Answering) -> usize
 
 fn put_body(out: &mut [u8], at: usize, a: Answering) -> usize
     requires { ⌜ at + 109 ≤ length (now out) ⌝ }
-    ensures { λ r. ⌜ Put at (pick (a .bare) (bareBody a) (fullBody a)) (now (out .entry)) (now (out .exit)) r ⌝ }
+    ensures { λ r. ⌜ Put at (joined (bodyFields a)) (now (out .entry)) (now (out .exit)) r ⌝ }
 {
     if a.bare {
         return put_bare(out, at, a);

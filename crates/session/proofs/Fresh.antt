@@ -11,8 +11,8 @@ use Rattle.digest.specs.declared.State.{State}
 use Rattle.changeover.specs.declared.Key.the-variants.{Missing}
 use Rattle.message.specs.declared.Extent.the-variants.{Whole}
 use Rattle.checks.specs.Checks.{keyOr0}
-use Rattle.answers.specs.declared.Opening.{Opening}
-use Rattle.whole.specs.Messages.{textRoom}
+use Rattle.opening.specs.declared.Opening.{Opening}
+use Rattle.whole_file.specs.Messages.{textRoom}
 use Rattle.session.specs.Events.{nothing}
 use Rattle.session.specs.Machine.{opened, unopened}
 use Rattle.session.specs.Ranges.{Fits, StateFits, RunningFits, Encodes}

@@ -11,6 +11,7 @@ use Rattle.des.specs.Des.{enciphered}
 use Rattle.digest.specs.Running.{begun, alike, tookBytes, ended, answered}
 use Rattle.changeover.specs.declared.Key.the-variants.{Missing}
 use Rattle.table.specs.Decode.{tableOf}
+use Rattle.message.specs.Layout.{field, noField}
 use Rattle.message.specs.Fields.{senderOf, methodOf}
 use Rattle.message.specs.declared.Extent.{Extent}
 use Rattle.message.specs.declared.Extent.the-variants.{Whole, CutShort}
@@ -25,8 +26,8 @@ use Rattle.verdict.specs.declared.Outcome.{Outcome}
 use Rattle.notice.specs.Codes.{codeIn, codes}
 use Rattle.reply.specs.declared.Answering.{Answering}
 use Rattle.answers.specs.Answers.{bareAnswer, verdictAnswer}
-use Rattle.whole.specs.Messages.{begins, extentOf, isWhole, wantedLength, wantsMore, onceOf}
-use Rattle.whole.specs.WholeFile.{occasion}
+use Rattle.whole_file.specs.Messages.{begins, extentOf, isWhole, wantedLength, wantsMore, onceOf}
+use Rattle.whole_file.specs.WholeFile.{occasion}
 use Rattle.session.specs.declared.Line.{Line}
 use Rattle.session.specs.declared.Place.{Place}
 use Rattle.session.specs.declared.Place.the-variants.{BeforeEsi, Outside, Collecting, InData, Closed}
@@ -35,6 +36,23 @@ use Rattle.session.specs.declared.Batch.{Batch}
 use Rattle.session.specs.declared.Session.{Session}
 use Rattle.session.specs.declared.Reply.{Reply}
 use Rattle.session.specs.declared.Stepped.{Stepped}
+
+-- ---- a session on its way: whether it was opened and what was given then stay, the rest is as it says
+
+abbrev pub onward : Session → (ended told : Bool) → (made : ℕ) → (sender : List ℕ) → Line → Place → Gathered → Batch → Session
+onward s ended told made sender line place gathered batch =
+    record {
+      opened = s .opened;
+      ended = ended;
+      told = told;
+      opening = s .opening;
+      made = made;
+      sender = sender;
+      line = line;
+      place = place;
+      gathered = gathered;
+      batch = batch;
+    }
 
 -- ---- characters
 
@@ -61,23 +79,13 @@ isData Closed = false
 
 -- in data the characters go into the digest too; `e` enciphers under the one-time key
 unfoldable pub batchWith : (ℕ → ℕ) → Place → Batch → List ℕ → Batch
-batchWith e p b l =
-    pick (isData p) (record { suo = b .suo; once = b .once; running = tookBytes e (b .running) l }) b
+batchWith e p batch l =
+    pick (isData p) (record { suo = batch .suo; once = batch .once; running = tookBytes e (batch .running) l }) batch
 
 unfoldable pub heardBy : (ℕ → ℕ) → Session → List ℕ → Session
 heardBy e s l =
-    record {
-      opened = s .opened;
-      ended = s .ended;
-      told = s .told;
-      opening = s .opening;
-      made = s .made;
-      sender = s .sender;
-      line = s .line;
-      place = s .place;
-      gathered = gatheredAll (s .gathered) l;
-      batch = batchWith e (s .place) (s .batch) l;
-    }
+    onward s (s .ended) (s .told) (s .made) (s .sender) (s .line) (s .place) (gatheredAll (s .gathered) l)
+    (batchWith e (s .place) (s .batch) l)
 
 unfoldable pub cipherOf : Session → ℕ → ℕ
 cipherOf s x = enciphered (keyOr0 (s .batch .once)) x
@@ -102,7 +110,7 @@ noReply =
             pte = false;
             bare = false;
             code = 0;
-            field = 0;
+            field = noField;
             time = 0;
             bank = replicate 25 0;
             software = replicate 16 0;
@@ -115,10 +123,10 @@ noReply =
     }
 
 unfoldable pub silent : Session → List ℕ → Turn
-silent s w = record { out = record { session = s; reply = noReply }; table = w }
+silent s b = record { out = record { session = s; reply = noReply }; table = b }
 
 unfoldable pub replies : Answering → Session → List ℕ → Turn
-replies a s w = record { out = record { session = s; reply = record { given = true; answer = a } }; table = w }
+replies a s b = record { out = record { session = s; reply = record { given = true; answer = a } }; table = b }
 
 -- nothing on its way
 unfoldable pub nothing : Gathered
@@ -126,57 +134,21 @@ nothing = record { count = 0; blank = true; text = replicate keptRoom 0 }
 
 -- another place, with 1023 given or not, and what is gathered
 unfoldable pub placed : Session → Place → Bool → Gathered → Session
-placed s p told g =
-    record {
-      opened = s .opened;
-      ended = s .ended;
-      told = told;
-      opening = s .opening;
-      made = s .made;
-      sender = s .sender;
-      line = s .line;
-      place = p;
-      gathered = g;
-      batch = s .batch;
-    }
+placed s p told g = onward s (s .ended) told (s .made) (s .sender) (s .line) p g (s .batch)
 
 unfoldable pub withBatch : Session → Batch → Session
-withBatch s b =
-    record {
-      opened = s .opened;
-      ended = s .ended;
-      told = s .told;
-      opening = s .opening;
-      made = s .made;
-      sender = s .sender;
-      line = s .line;
-      place = s .place;
-      gathered = s .gathered;
-      batch = b;
-    }
+withBatch s batch = onward s (s .ended) (s .told) (s .made) (s .sender) (s .line) (s .place) (s .gathered) batch
 
 -- after a verdict: the keys made in this file, and the ESI's sender
 unfoldable pub judged : Session → Place → ℕ → List ℕ → Session
-judged s p made sender =
-    record {
-      opened = s .opened;
-      ended = s .ended;
-      told = false;
-      opening = s .opening;
-      made = made;
-      sender = sender;
-      line = s .line;
-      place = p;
-      gathered = nothing;
-      batch = s .batch;
-    }
+judged s p made sender = onward s (s .ended) false made sender (s .line) p nothing (s .batch)
 
 unfoldable pub shut : Session → Session
 shut s = placed s Closed (s .told) nothing
 
 -- a bare reply, ESI or PTE
 unfoldable pub bareTurn : Session → List ℕ → Bool → ℕ → ℕ → Session → Turn
-bareTurn s w pte code field after = replies (bareAnswer (tableOf w) (s .opening) pte code field) after w
+bareTurn s b pte code field after = replies (bareAnswer (tableOf b) (s .opening) pte code field) after b
 
 -- ---- a message's end
 
@@ -193,18 +165,18 @@ placeAfterEsi true = Outside
 placeAfterEsi false = Closed
 
 unfoldable pub esiDone : Session → List ℕ → Collected → Turn
-esiDone s w m =
+esiDone s b m =
     let o : Occasion = occasion (s .opening) (s .made) in
-    let out : Outcome = esiOutcome (tableOf w) o m in
-    let after : List ℕ = esiLeaves w o m in
+    let out : Outcome = esiOutcome (tableOf b) o m in
+    let after : List ℕ = esiLeaves b o m in
     replies (verdictAnswer (tableOf after) (s .opening) false out (m .text) (m .text))
     (judged s (placeAfterEsi (codeIn (out .code) codes .accepted)) (out .made) (senderOf (m .text)))
     after
 
 unfoldable pub suoDone : Session → List ℕ → Collected → Session
-suoDone s w m =
+suoDone s b m =
     withBatch (placed s InData (s .told) nothing)
-    (record { suo = m; once = onceOf (tableOf w) m; running = alike begun })
+    (record { suo = m; once = onceOf (tableOf b) m; running = alike begun })
 
 -- the frame, with the digest of the records before the VAR
 unfoldable pub frameBy : Session → Collected → Frame
@@ -217,10 +189,10 @@ frameBy s m =
     }
 
 unfoldable pub varDone : Session → List ℕ → Collected → Turn
-varDone s w m =
+varDone s b m =
     let o : Occasion = occasion (s .opening) (s .made) in
-    let out : Outcome = frameOutcome (tableOf w) o (frameBy s m) in
-    let after : List ℕ = frameLeaves w o (frameBy s m) in
+    let out : Outcome = frameOutcome (tableOf b) o (frameBy s m) in
+    let after : List ℕ = frameLeaves b o (frameBy s m) in
     replies (verdictAnswer (tableOf after) (s .opening) true out (s .batch .suo .text) (m .text))
     (judged s Outside (out .made) (s .sender))
     after
@@ -231,16 +203,16 @@ unfoldable pub keepsOn : Session → Kind → Session
 keepsOn s kind = placed s (Collecting kind) (s .told) (s .gathered)
 
 unfoldable pub esiOn : Session → List ℕ → Turn
-esiOn s w =
-    pick (wantsMore Esi (held (s .gathered))) (silent (keepsOn s Esi) w) (esiDone s w (collectedBy Esi Whole (s .gathered)))
+esiOn s b =
+    pick (wantsMore Esi (held (s .gathered))) (silent (keepsOn s Esi) b) (esiDone s b (collectedBy Esi Whole (s .gathered)))
 
 unfoldable pub suoOn : Session → List ℕ → Session
-suoOn s w =
-    pick (wantsMore Suo (held (s .gathered))) (keepsOn s Suo) (suoDone s w (collectedBy Suo Whole (s .gathered)))
+suoOn s b =
+    pick (wantsMore Suo (held (s .gathered))) (keepsOn s Suo) (suoDone s b (collectedBy Suo Whole (s .gathered)))
 
 unfoldable pub varOn : Session → List ℕ → Turn
-varOn s w =
-    pick (wantsMore Var (held (s .gathered))) (silent (keepsOn s Var) w) (varDone s w (collectedBy Var Whole (s .gathered)))
+varOn s b =
+    pick (wantsMore Var (held (s .gathered))) (silent (keepsOn s Var) b) (varDone s b (collectedBy Var Whole (s .gathered)))
 
 -- ---- a message's first record
 
@@ -248,27 +220,27 @@ unfoldable pub extentBy : Kind → Session → Extent
 extentBy kind s = extentOf kind (held (s .gathered))
 
 unfoldable pub esiStart : Session → List ℕ → Turn
-esiStart s w =
-    pick (isWhole (extentBy Esi s)) (esiOn s w) (esiDone s w (collectedBy Esi (extentBy Esi s) (s .gathered)))
+esiStart s b =
+    pick (isWhole (extentBy Esi s)) (esiOn s b) (esiDone s b (collectedBy Esi (extentBy Esi s) (s .gathered)))
 
 unfoldable pub suoStart : Session → List ℕ → Session
-suoStart s w =
-    pick (isWhole (extentBy Suo s)) (suoOn s w) (suoDone s w (collectedBy Suo (extentBy Suo s) (s .gathered)))
+suoStart s b =
+    pick (isWhole (extentBy Suo s)) (suoOn s b) (suoDone s b (collectedBy Suo (extentBy Suo s) (s .gathered)))
 
 unfoldable pub varStart : Session → List ℕ → Turn
-varStart s w =
-    pick (isWhole (extentBy Var s)) (varOn s w) (varDone s w (collectedBy Var (extentBy Var s) (s .gathered)))
+varStart s b =
+    pick (isWhole (extentBy Var s)) (varOn s b) (varDone s b (collectedBy Var (extentBy Var s) (s .gathered)))
 
 -- ---- a record's end
 
 unfoldable pub firstEnds : Session → List ℕ → Turn
-firstEnds s w = pick (begins ">>ESI" (held (s .gathered))) (esiStart s w) (bareTurn s w false 1010 10 (shut s))
+firstEnds s b = pick (begins ">>ESI" (held (s .gathered))) (esiStart s b) (bareTurn s b false 1010 (field 1) (shut s))
 
 unfoldable pub outsideEnds : Session → List ℕ → Turn
-outsideEnds s w =
-    pick (begins ">>SUO" (held (s .gathered))) (silent (suoStart s w) w)
-    (pick (begins ">>ESI" (held (s .gathered))) (bareTurn s w false 1011 10 (shut s))
-    (pick (s .told) (silent (placed s Outside true nothing) w) (bareTurn s w true 1023 0 (placed s Outside true nothing))))
+outsideEnds s b =
+    pick (begins ">>SUO" (held (s .gathered))) (silent (suoStart s b) b)
+    (pick (begins ">>ESI" (held (s .gathered))) (bareTurn s b false 1011 (field 1) (shut s))
+    (pick (s .told) (silent (placed s Outside true nothing) b) (bareTurn s b true 1023 noField (placed s Outside true nothing))))
 
 -- the end of a data record
 unfoldable pub dataTaken : Session → Session
@@ -281,25 +253,25 @@ dataTaken s =
     })
 
 unfoldable pub frameEnds : Session → List ℕ → Turn
-frameEnds s w =
-    pick (begins ">>VAR" (held (s .gathered))) (varStart s w)
-    (pick (begins ">>SUO" (held (s .gathered))) (bareTurn s w true 1024 0 (suoStart s w))
-    (pick (begins ">>ESI" (held (s .gathered))) (bareTurn s w true 1024 0 (shut s)) (silent (dataTaken s) w)))
+frameEnds s b =
+    pick (begins ">>VAR" (held (s .gathered))) (varStart s b)
+    (pick (begins ">>SUO" (held (s .gathered))) (bareTurn s b true 1024 noField (suoStart s b))
+    (pick (begins ">>ESI" (held (s .gathered))) (bareTurn s b true 1024 noField (shut s)) (silent (dataTaken s) b)))
 
 unfoldable pub collectingEnds : Kind → Session → List ℕ → Turn
-collectingEnds Esi s w = esiOn s w
-collectingEnds Suo s w = silent (suoOn s w) w
-collectingEnds Var s w = varOn s w
+collectingEnds Esi s b = esiOn s b
+collectingEnds Suo s b = silent (suoOn s b) b
+collectingEnds Var s b = varOn s b
 
 unfoldable pub endsIn : Place → Session → List ℕ → Turn
-endsIn BeforeEsi s w = firstEnds s w
-endsIn Outside s w = outsideEnds s w
-endsIn (Collecting kind) s w = collectingEnds kind s w
-endsIn InData s w = frameEnds s w
-endsIn Closed s w = silent s w
+endsIn BeforeEsi s b = firstEnds s b
+endsIn Outside s b = outsideEnds s b
+endsIn (Collecting kind) s b = collectingEnds kind s b
+endsIn InData s b = frameEnds s b
+endsIn Closed s b = silent s b
 
 unfoldable pub recordEnded : Session → List ℕ → Turn
-recordEnded s w = endsIn (s .place) s w
+recordEnded s b = endsIn (s .place) s b
 
 -- ---- a byte past the size limit
 
@@ -310,31 +282,31 @@ isEsi Suo = false
 isEsi Var = false
 
 unfoldable pub passedIn : Place → Session → List ℕ → Turn
-passedIn BeforeEsi s w = bareTurn s w false 1034 0 (shut s)
-passedIn Outside s w = bareTurn s w true 1034 0 (shut s)
-passedIn (Collecting kind) s w = bareTurn s w (pick (isEsi kind) false true) 1034 0 (shut s)
-passedIn InData s w = bareTurn s w true 1034 0 (shut s)
-passedIn Closed s w = silent s w
+passedIn BeforeEsi s b = bareTurn s b false 1034 noField (shut s)
+passedIn Outside s b = bareTurn s b true 1034 noField (shut s)
+passedIn (Collecting kind) s b = bareTurn s b (pick (isEsi kind) false true) 1034 noField (shut s)
+passedIn InData s b = bareTurn s b true 1034 noField (shut s)
+passedIn Closed s b = silent s b
 
 unfoldable pub passed : Session → List ℕ → Turn
-passed s w = passedIn (s .place) s w
+passed s b = passedIn (s .place) s b
 
 -- ---- the file's end
 
 unfoldable pub cutShort : Kind → Session → List ℕ → Turn
-cutShort Esi s w = esiDone s w (collectedBy Esi CutShort (s .gathered))
-cutShort Suo s w = bareTurn s w true 1032 0 (shut s)
-cutShort Var s w = varDone s w (collectedBy Var CutShort (s .gathered))
+cutShort Esi s b = esiDone s b (collectedBy Esi CutShort (s .gathered))
+cutShort Suo s b = bareTurn s b true 1032 noField (shut s)
+cutShort Var s b = varDone s b (collectedBy Var CutShort (s .gathered))
 
 unfoldable pub finishedIn : Place → Session → List ℕ → Turn
-finishedIn BeforeEsi s w = silent s w
-finishedIn Outside s w = silent s w
-finishedIn (Collecting kind) s w = cutShort kind s w
-finishedIn InData s w = bareTurn s w true 1024 0 (shut s)
-finishedIn Closed s w = silent s w
+finishedIn BeforeEsi s b = silent s b
+finishedIn Outside s b = silent s b
+finishedIn (Collecting kind) s b = cutShort kind s b
+finishedIn InData s b = bareTurn s b true 1024 noField (shut s)
+finishedIn Closed s b = silent s b
 
 unfoldable pub fileEnded : Session → List ℕ → Turn
-fileEnded s w = finishedIn (s .place) s w
+fileEnded s b = finishedIn (s .place) s b
 
 -- whether the file's end has a reply to give there
 unfoldable pub isDue : Place → Bool

@@ -5,7 +5,7 @@ use mathlib.Core.Bool.{Bool, true, false}
 use mathlib.Core.List.{List, [], _∷_, _++_}
 use lib.Dec.{eqb, leb}
 use Rattle.ground.specs.Choice.{pick}
-use Rattle.whole.specs.Records.{lf, cr, sizeLimit}
+use Rattle.whole_file.specs.Records.{lf, cr, sizeLimit}
 use Rattle.session.specs.declared.Line.{Line}
 
 -- what a byte tells: characters of the record on its way, the record's end, or that the file is past the size limit

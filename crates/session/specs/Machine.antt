@@ -2,48 +2,33 @@
 -- Assumes nothing.
 use Prim.Native.Nat.{ℕ, _+_}
 use mathlib.Core.Bool.{Bool, true, false}
-use mathlib.Core.List.{List, [], _∷_, _++_}
+use mathlib.Core.List.{List, [], _∷_}
 use lib.Dec.{ltb}
 use lib.ListN.{replicate}
 use Rattle.ground.specs.Choice.{either, pick}
 use Rattle.digest.specs.Running.{begun, alike}
 use Rattle.changeover.specs.declared.Key.the-variants.{Missing}
 use Rattle.message.specs.declared.Extent.the-variants.{Whole}
-use Rattle.reply.specs.declared.Answering.{Answering}
-use Rattle.answers.specs.declared.Opening.{Opening}
-use Rattle.whole.specs.Messages.{textRoom}
+use Rattle.opening.specs.declared.Opening.{Opening}
+use Rattle.whole_file.specs.Messages.{textRoom}
 use Rattle.session.specs.Lines.{Event, characters, recordEnds, sizePassed, waited, eventOf, lineAfter, lineEnded}
-use Rattle.session.specs.Events.{Turn, silent, noReply, nothing, heard, recordEnded, passed, fileEnded}
+use Rattle.session.specs.Events.{onward, Turn, silent, nothing, heard, recordEnded, passed}
 use Rattle.session.specs.declared.Line.{Line}
 use Rattle.session.specs.declared.Place.the-variants.{BeforeEsi, Closed}
 use Rattle.session.specs.declared.Session.{Session}
-use Rattle.session.specs.declared.Reply.{Reply}
-use Rattle.session.specs.declared.Stepped.{Stepped}
 
 -- ---- one byte
 
 unfoldable pub withLine : Session → Line → Session
-withLine s l =
-    record {
-      opened = s .opened;
-      ended = s .ended;
-      told = s .told;
-      opening = s .opening;
-      made = s .made;
-      sender = s .sender;
-      line = l;
-      place = s .place;
-      gathered = s .gathered;
-      batch = s .batch;
-    }
+withLine s l = onward s (s .ended) (s .told) (s .made) (s .sender) l (s .place) (s .gathered) (s .batch)
 
 unfoldable pub onEvent : Event → Session → List ℕ → Turn
-onEvent (characters l) s w = silent (heard s l) w
-onEvent recordEnds s w = recordEnded s w
-onEvent sizePassed s w = passed s w
+onEvent (characters l) s b = silent (heard s l) b
+onEvent recordEnds s b = recordEnded s b
+onEvent sizePassed s b = passed s b
 
 unfoldable pub stepped : Session → List ℕ → ℕ → Turn
-stepped s w b = onEvent (eventOf (s .line) b) (withLine s (lineAfter (s .line) b)) w
+stepped s b byte = onEvent (eventOf (s .line) byte) (withLine s (lineAfter (s .line) byte)) b
 
 -- ---- bytes up to the first reply: how many were taken, and the session, reply and table then
 
@@ -56,9 +41,9 @@ scanOn x rest =
     pick (x .out .reply .given) (record { turn = x; taken = 1 }) (record { turn = rest .turn; taken = rest .taken + 1 })
 
 unfoldable pub scanned : Session → List ℕ → List ℕ → Scan
-scanned s w [] = record { turn = silent s w; taken = 0 }
-scanned s w (b ∷ bs) =
-    let x : Turn = stepped s w b in scanOn x (scanned (x .out .session) (x .table) bs)
+scanned s b [] = record { turn = silent s b; taken = 0 }
+scanned s b (byte ∷ xs) =
+    let x : Turn = stepped s b byte in scanOn x (scanned (x .out .session) (x .table) xs)
 
 -- ---- the file's end
 
@@ -68,8 +53,8 @@ isBegun s = either (s .line .cr) (ltb 0 (s .gathered .count))
 
 -- that last record ends
 unfoldable pub lastEnded : Session → List ℕ → Turn
-lastEnded s w =
-    pick (isBegun s) (recordEnded (withLine (heard s (waited (s .line .cr))) (lineEnded (s .line))) w) (silent s w)
+lastEnded s b =
+    pick (isBegun s) (recordEnded (withLine (heard s (waited (s .line .cr))) (lineEnded (s .line))) b) (silent s b)
 
 -- ---- a file that was just opened
 

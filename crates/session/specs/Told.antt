@@ -1,10 +1,11 @@
--- All that the machine says over the bytes to come and the file's end, each reply with the number of bytes up to it, and the table it leaves.
+-- All that the machine says over the bytes to come and the file's end, each reply with the number of bytes up to it, and the table it
+-- leaves.
 -- Assumes nothing.
 use Prim.Native.Nat.{ℕ, _+_}
 use mathlib.Core.List.{List, [], _∷_, _++_}
 use Rattle.ground.specs.Choice.{pick}
 use Rattle.reply.specs.declared.Answering.{Answering}
-use Rattle.whole.specs.WholeFile.{Given, givenAt}
+use Rattle.whole_file.specs.WholeFile.{Given, givenAt}
 use Rattle.session.specs.Events.{Turn, fileEnded}
 use Rattle.session.specs.Machine.{stepped, lastEnded}
 use Rattle.session.specs.declared.Session.{Session}
@@ -22,12 +23,12 @@ before l x = record { given = l ++ x .given; table = x .table }
 
 -- the file's end: a last record that no LF ended, and then what is due
 unfoldable pub endTold : ℕ → Session → List ℕ → Answered
-endTold at s w =
-    let x : Turn = lastEnded s w in
+endTold at s b =
+    let x : Turn = lastEnded s b in
     let y : Turn = fileEnded (x .out .session) (x .table) in
     record { given = givenAt at (saidBy x ++ saidBy y); table = y .table }
 
 unfoldable pub allTold : ℕ → Session → List ℕ → List ℕ → Answered
-allTold at s w [] = endTold at s w
-allTold at s w (b ∷ bs) =
-    let x : Turn = stepped s w b in before (givenAt (at + 1) (saidBy x)) (allTold (at + 1) (x .out .session) (x .table) bs)
+allTold at s b [] = endTold at s b
+allTold at s b (byte ∷ xs) =
+    let x : Turn = stepped s b byte in before (givenAt (at + 1) (saidBy x)) (allTold (at + 1) (x .out .session) (x .table) xs)

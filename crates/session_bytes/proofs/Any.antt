@@ -1,104 +1,110 @@
 -- Whatever bytes are handed in, the session that they say is a value of its type whose numbers fit their bytes: a session's bytes are what
 -- it is written as, so each number is read from bytes that a number was written in; and all other bytes say one that is not open.
 -- Assumes nothing.
-use Prim.Native.Nat.{ℕ, _<_, _^_}
+use Prim.Native.Nat.{ℕ, suc, _+_, _^_, _<_, _≤_}
 use mathlib.Core.Path.{_≡_, refl, sym, ap, _∙_, subst}
 use mathlib.Core.Bool.{Bool, true, false}
-use mathlib.Core.List.{List}
+use mathlib.Core.List.{List, _++_}
+use mathlib.Core.Option.{none, some}
 use native.Mathlib.Omega.{arith}
-use borrow.Author.Tests.{eqb-true, eqb-false}
 use lib.Dec.{eqb}
-use lib.ListN.{length}
+use lib.ListN.{length, take, drop}
+use lib.Seq.{take-at, drop-at}
+use Rattle.ground.specs.Choice.{both, pick}
 use Rattle.ground.specs.Lists.{part}
-use Rattle.text.proofs.Lists.{picked}
+use Rattle.ground.proofs.Choices.{left, right}
+use Rattle.ground.proofs.Bools.{picked}
 use Rattle.splices.specs.Bytes.{num, bytesOf}
-use Rattle.splices.proofs.Splice.{part-length}
+use Rattle.splices.proofs.Splice.{part-length, part-add, part-all}
 use Rattle.splices.proofs.Chunks.{num-lt, bytesOf-bytes, bytesOf-length}
-use Rattle.record.proofs.Back.{field}
-use Rattle.checks.specs.Checks.{keyOr0}
+use Rattle.codec.specs.Layout.{Shape, number, named, text, numbers, many, perhaps, within, _⊗_, width, enc, dec, Fits}
+use Rattle.codec.proofs.Laws.{wide, dec-sized}
 use Rattle.session.specs.Machine.{unopened}
-use Rattle.session.specs.Ranges.{Fits, StateFits, RunningFits, Encodes}
+use Rattle.session.specs.Ranges.{Encodes}
+use Rattle.session.specs.Ranges as ranges
 use Rattle.session.proofs.Fresh.{unopened-encodes}
-use Rattle.session_bytes.specs.Session.{sessionSize, sessionBytes, sessionOf, isSession, sessionIn}
-use Rattle.session_bytes.specs.Session.{keyBytes, keyOf, stateBytes, stateOf}
-use Rattle.session_bytes.proofs.Widths.{stateFields, stateWidths, state-wide}
-use Rattle.session_bytes.proofs.Back.{key-none, key-held, held-key}
-use Rattle.session_bytes.proofs.Exact.{fields, key-exact}
+use Rattle.session_bytes.specs.Session.{sessionShape, sessionBytes, sessionOf, isSession, sessionIn}
+use Rattle.session_bytes.proofs.Fields.{fields-back, fits-session}
 use Rattle.session_bytes.proofs.Laws.{said, long, exact}
 
--- ---- a number that was written
+-- ---- bytes that numbers were written in
 
--- is below the first that needs a byte more
 below : (k n : ℕ) (x : List ℕ) → x ≡ bytesOf k n → num x < 256 ^ k
 below k n x e =
     subst (λ (y : List ℕ). num y < 256 ^ k) (sym e)
     (subst (λ (j : ℕ). num (bytesOf k n) < 256 ^ j) (bytesOf-length k n) (num-lt (bytesOf k n) (bytesOf-bytes k n)))
 
-state-small : (l : List ℕ) → l ≡ stateBytes (stateOf l) → StateFits (stateOf l)
-unfolding stateBytes stateOf
-state-small l e =
-    let at = field (stateFields (stateOf l)) stateWidths (state-wide (stateOf l)) in
-    record {
-      chain-fits = omega (arith, below 8 _ (part 0 8 l) (ap (part 0 8) e ∙ at 0));
-      block-fits = omega (arith, below 8 _ (part 8 8 l) (ap (part 8 8) e ∙ at 1));
-      count-fits = omega (arith, below 8 _ (part 16 8 l) (ap (part 16 8) e ∙ at 2));
-    }
+-- a part that is two lists, one after the other, is the two parts
+module _ (l a b : List ℕ) (o n m : ℕ) (k : o + n ≤ length l) (e : length a ≡ n) (h : part o (n + m) l ≡ a ++ b) where
+  both-parts : part o n l ++ part (o + n) m l ≡ a ++ b
+  both-parts = sym (part-add l o n m) ∙ h
 
-key-small : (l : List ℕ) → keyBytes (keyOf l) ≡ l → keyOr0 (keyOf l) < 2 ^ 64
-unfolding keyOr0 keyBytes
-key-small l e = by (eqb (num (part 0 1 l)) 1) refl
+  first-of : part o n l ≡ a
+  first-of = sym (take-at (part o n l) (part (o + n) m l) n (part-length l o n k)) ∙ ap (take n) both-parts ∙ take-at a b n e
+
+  rest-of : part (o + n) m l ≡ b
+  rest-of = sym (drop-at (part o n l) (part (o + n) m l) n (part-length l o n k)) ∙ ap (drop n) both-parts ∙ drop-at a b n e
+
+-- ---- what is written as these bytes fits them
+
+-- a layout with no run of numbers or records
+abbrev plain : Shape → Bool
+plain (number w) = true
+plain (named n) = true
+plain (text n) = true
+plain (numbers n w) = false
+plain (many n s) = false
+plain (perhaps s) = plain s
+plain (within s) = plain s
+plain (s ⊗ t) = both (plain s) (plain t)
+
+session-plain : plain sessionShape ≡ true
+unfolding both
+session-plain = refl
+
+written-fits : (s : Shape) → plain s ≡ true → (o : ℕ) (l : List ℕ) → o + width s ≤ length l → part o (width s) l ≡ enc s (dec s o l)
+    → Fits s (dec s o l)
+unfolding enc dec width pick
+written-fits (number w) p o l h e = below w _ (part o w l) e
+written-fits (named n) p o l h e = tt
+written-fits (text n) p o l h e = part-length l o n h
+written-fits (numbers n w) p o l h e = let z : _≡_ {A = ℕ} 0 1 = cc in absurd (omega arith)
+written-fits (many n s) p o l h e = let z : _≡_ {A = ℕ} 0 1 = cc in absurd (omega arith)
+written-fits (perhaps s) p o l h e = go (eqb (num (part o 1 l)) 1) e (written-fits s p (o + 1) l (omega arith))
   where
-    by : (v : Bool) → eqb (num (part 0 1 l)) 1 ≡ v → keyOr0 (keyOf l) < 2 ^ 64
-    by false n = omega (arith, ap keyOr0 (key-none l (eqb-false _ 1 n)))
-    by true h =
-        let k = key-held l (eqb-true _ 1 h) in
-        let x : part 1 8 l ≡ bytesOf 8 (num (part 1 8 l)) = ap (part 1 8) (sym e ∙ ap keyBytes k) ∙ held-key (num (part 1 8 l)) in
-        omega (arith, ap keyOr0 k, below 8 _ (part 1 8 l) x)
-
--- ---- bytes that are a session's
-
-module _ (l : List ℕ) (n : length l ≡ sessionSize) (e : sessionBytes (sessionOf l) ≡ l) where
-  said-fits : Fits (sessionOf l)
-  unfolding sessionOf
-  said-fits =
-      record {
-        message-long = part-length l 67 161 (omega arith);
-        suo-long = part-length l 233 161 (omega arith);
-        sender-long = part-length l 32 25 (omega arith);
-        key-fits = key-small (part 394 9 l) (key-exact l n e);
-      }
-
-  said-running : RunningFits (sessionOf l .batch .running)
-  unfolding sessionOf
-  said-running =
-      record {
-        start-fits = state-small (part 403 24 l) (fields l n e 19);
-        solid-fits = state-small (part 427 24 l) (fields l n e 20);
-        last-fits = state-small (part 451 24 l) (fields l n e 21);
-      }
-
-  said-encodes : Encodes (sessionOf l)
-  unfolding sessionOf
-  said-encodes =
-      record {
-        fits = said-fits;
-        day-fits = omega (arith, below 4 _ (part 4 4 l) (fields l n e 4));
-        time-fits = omega (arith, below 4 _ (part 8 4 l) (fields l n e 5));
-        kind-fits = omega (arith, below 4 _ (part 12 4 l) (fields l n e 6));
-        clock-fits = omega (arith, below 8 _ (part 16 8 l) (fields l n e 7));
-        made-fits = omega (arith, below 8 _ (part 24 8 l) (fields l n e 8));
-        size-fits = omega (arith, below 4 _ (part 57 4 l) (fields l n e 10));
-        count-fits = omega (arith, below 4 _ (part 62 4 l) (fields l n e 12));
-        running-fits = said-running;
-      }
+    go : (t : Bool) → part o (suc (width s)) l ≡ enc (perhaps s) (pick t (some (dec s (o + 1) l)) none)
+        → (part (o + 1) (width s) l ≡ enc s (dec s (o + 1) l) → Fits s (dec s (o + 1) l))
+        → Fits (perhaps s) (pick t (some (dec s (o + 1) l)) none)
+    go true f r =
+        let g : 1 + width s ≡ suc (width s) = omega arith in
+        let x = enc s (dec s (o + 1) l) in
+        r (rest-of l (bytesOf 1 1) x o 1 (width s) (omega arith) (bytesOf-length 1 1) (ap (λ (k : ℕ). part o k l) g ∙ f))
+    go false f r = tt
+written-fits (within s) p o l h e = written-fits s p o l h e
+written-fits (s ⊗ t) p o l h e =
+    let k : o + width s ≤ length l = omega arith in
+    let x = dec s o l in
+    let y = dec t (o + width s) l in
+    let n = wide s x (dec-sized s o l k) in (
+      written-fits s (left (plain s) (plain t) p) o l k (first-of l (enc s x) (enc t y) o (width s) (width t) k n e),
+      written-fits t (right (plain s) (plain t) p) (o + width s) l (omega arith)
+          (rest-of l (enc s x) (enc t y) o (width s) (width t) k n e),
+    )
 
 -- ---- any bytes
 
+said-encodes : (b : List ℕ) → isSession b ≡ true → Encodes (sessionOf b)
+unfolding sessionOf sessionBytes width
+said-encodes b e =
+    let n = long b e in
+    let v = dec sessionShape 0 b in
+    let f : part 0 475 b ≡ enc sessionShape v = part-all b 475 (omega arith) ∙ sym (exact b e) ∙ ap sessionBytes (said b e)
+    ∙ ap (enc sessionShape) (fields-back v) in
+    fits-session v (written-fits sessionShape session-plain 0 b (omega arith) f)
+
 pub encodes-in : (b : List ℕ) → Encodes (sessionIn b)
 unfolding sessionIn
-encodes-in b =
-    picked Encodes (isSession b) (sessionOf b) unopened (λ e. said-encodes b (long b e) (ap sessionBytes (sym (said b e)) ∙ exact b e))
-    (λ e. unopened-encodes)
+encodes-in b = picked Encodes (isSession b) (sessionOf b) unopened (said-encodes b) (λ e. unopened-encodes)
 
-pub fits-in : (b : List ℕ) → Fits (sessionIn b)
+pub fits-in : (b : List ℕ) → ranges.Fits (sessionIn b)
 fits-in b = encodes-in b .fits

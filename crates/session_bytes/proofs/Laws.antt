@@ -1,26 +1,35 @@
--- A session that is written is read back, and bytes that are a session's are what it is written as, since each field is read where it was written.
+-- What every layout's laws say of a session's: one that is written is read back, and bytes that are a session's are what it is written as.
 -- Assumes nothing.
 use mathlib.Core.Path.{_≡_, ap, _∙_}
 use mathlib.Core.Bool.{true}
 use mathlib.Core.List.{List}
 use Prim.Native.Nat.{ℕ}
+use native.Mathlib.Omega.{arith}
 use borrow.Author.Tests.{eqb-true, eq-eqb, ne-eqb}
 use lib.Dec.{eqb}
 use lib.ListN.{length}
 use Rattle.ground.specs.Lists.{same}
 use Rattle.ground.proofs.Choices.{left, right, join, picks, skips, same-eq, eq-same}
+use Rattle.splices.proofs.Splice.{part-all}
+use Rattle.codec.specs.Layout.{width}
+use Rattle.codec.proofs.Laws.{wide, fits-sized}
+use Rattle.codec.proofs.Laws as codec
 use Rattle.session.specs.Machine.{unopened}
 use Rattle.session.specs.Ranges.{Encodes}
 use Rattle.session.specs.declared.Session.{Session}
-use Rattle.session_bytes.specs.Session.{sessionSize, sessionBytes, sessionOf, isSession, sessionIn, sessionStored}
-use Rattle.session_bytes.proofs.Widths.{session-width}
-use Rattle.session_bytes.proofs.Back.{session-back}
-
-pub back : (s : Session) → Encodes s → sessionOf (sessionBytes s) ≡ s
-back = session-back
+use Rattle.session_bytes.specs.Session.{sessionSize, sessionShape, sessionFrom, sessionTo, sessionBytes, sessionOf, isSession}
+use Rattle.session_bytes.specs.Session.{sessionIn, sessionStored}
+use Rattle.session_bytes.proofs.Fields.{session-there, session-fits}
 
 pub size : (s : Session) → Encodes s → length (sessionBytes s) ≡ sessionSize
-size s h = session-width s (h .fits .sender-long) (h .fits .message-long) (h .fits .suo-long)
+unfolding sessionBytes width
+size s h = wide sessionShape (sessionTo s) (fits-sized sessionShape (sessionTo s) (session-fits s h))
+
+pub back : (s : Session) → Encodes s → sessionOf (sessionBytes s) ≡ s
+unfolding sessionOf sessionBytes width
+back s h =
+    let e = part-all (sessionBytes s) 475 (omega (arith, size s h)) in
+    ap sessionFrom (codec.back sessionShape (sessionTo s) (session-fits s h) 0 (sessionBytes s) e) ∙ session-there s
 
 pub is-session : (s : Session) → Encodes s → isSession (sessionBytes s) ≡ true
 unfolding isSession

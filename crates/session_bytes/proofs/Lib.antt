@@ -1,7 +1,5 @@
 -- Laws, in the order in which they build on each other.
-pub mod Widths
-pub mod Groups
-pub mod Back
-pub mod Exact
+pub mod Fields
+pub mod Tests
 pub mod Laws
 pub mod Any

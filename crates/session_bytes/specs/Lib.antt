@@ -1,3 +1,3 @@
 -- What the contracts of `session_bytes` cite.
+pub mod Names
 pub mod Session
-pub mod Groups

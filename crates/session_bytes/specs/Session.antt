@@ -1,147 +1,190 @@
--- A session as bytes that a host keeps (docs/FORMAT.md). Every number is written lowest byte first.
+-- A session as bytes that a host keeps (docs/FORMAT.md): its fields in their order, each a line, and how they are a session's. Every number
+-- is written lowest byte first.
 -- Assumes nothing.
 use Prim.Native.Nat.{ℕ}
 use mathlib.Core.Bool.{Bool}
-use mathlib.Core.List.{List, [], _∷_, _++_}
+use mathlib.Core.List.{List}
+use mathlib.Core.Option.{none, some}
 use lib.Dec.{eqb}
-use lib.ListN.{length, replicate}
-use Rattle.ground.specs.Choice.{both, pick, one}
-use Rattle.ground.specs.Lists.{part, same}
-use Rattle.splices.specs.Bytes.{num, bytesOf, joined}
+use lib.ListN.{length}
+use Rattle.ground.specs.Choice.{both, pick}
+use Rattle.ground.specs.Lists.{same}
+use Rattle.codec.specs.Layout.{Shape, number, named, text, perhaps, within, _⊗_, Value, enc, dec}
+use Rattle.codec.specs.Flag.{flag}
 use Rattle.digest.specs.declared.State.{State}
 use Rattle.changeover.specs.declared.Key.{Key}
 use Rattle.changeover.specs.declared.Key.the-variants.{Missing, Is}
 use Rattle.message.specs.declared.Extent.{Extent}
-use Rattle.message.specs.declared.Extent.the-variants.{Whole, TooShort, LengthNotDigits, OtherLength, CutShort}
-use Rattle.message.specs.declared.Kind.{Kind}
-use Rattle.message.specs.declared.Kind.the-variants.{Esi, Suo, Var}
+use Rattle.message.specs.declared.Collected.{Collected}
 use Rattle.session.specs.Machine.{unopened}
-use Rattle.session.specs.declared.Place.{Place}
-use Rattle.session.specs.declared.Place.the-variants.{BeforeEsi, Outside, Collecting, InData, Closed}
+use Rattle.session.specs.declared.Gathered.{Gathered}
+use Rattle.session.specs.declared.Batch.{Batch}
 use Rattle.session.specs.declared.Session.{Session}
+use Rattle.session_bytes.specs.Names.{places, extents, zeros}
 
--- a session takes 475 bytes, a digest's state 24 of them, the one-time key 9
+-- a session takes 475 bytes
 abbrev pub sessionSize : ℕ
 sessionSize = 475
 
--- ---- the place as a number
+-- ---- the layout
 
-unfoldable pub kindNumber : Kind → ℕ
-kindNumber Esi = 2
-kindNumber Suo = 3
-kindNumber Var = 4
+abbrev pub headShape : Shape
+headShape =
+    flag ⊗  -- opened
+    flag ⊗  -- ended
+    flag ⊗  -- told
+    named places ⊗  -- place
+    number 4 ⊗  -- opening.today
+    number 4 ⊗  -- opening.time
+    number 4 ⊗  -- opening.kind
+    number 8 ⊗  -- opening.clock
+    number 8  -- made
 
-unfoldable pub placeNumber : Place → ℕ
-placeNumber BeforeEsi = 0
-placeNumber Outside = 1
-placeNumber (Collecting kind) = kindNumber kind
-placeNumber InData = 5
-placeNumber Closed = 6
+abbrev pub lineShape : Shape
+lineShape =
+    number 4 ⊗  -- line.size
+    flag  -- line.cr
 
-unfoldable pub placeNumbered : ℕ → Place
-placeNumbered n =
-    pick (eqb n 0) BeforeEsi
-    (pick (eqb n 1) Outside
-    (pick (eqb n 2) (Collecting Esi)
-    (pick (eqb n 3) (Collecting Suo) (pick (eqb n 4) (Collecting Var) (pick (eqb n 5) InData Closed)))))
+abbrev pub frontShape : Shape
+frontShape =
+    within headShape ⊗  -- numbers
+    text 25 ⊗  -- sender
+    within lineShape  -- line
 
--- ---- what was collected of a message, as a number
+abbrev pub gatheredShape : Shape
+gatheredShape =
+    number 4 ⊗  -- gathered.count
+    flag ⊗  -- gathered.blank
+    text 161  -- gathered.text
 
-unfoldable pub extentNumber : Extent → ℕ
-extentNumber Whole = 0
-extentNumber TooShort = 1
-extentNumber LengthNotDigits = 2
-extentNumber OtherLength = 3
-extentNumber CutShort = 4
+abbrev pub extentBytes : Shape
+extentBytes =
+    named extents ⊗  -- its lowest byte
+    named zeros ⊗  -- and three that it does not need
+    named zeros ⊗  -- zero
+    named zeros  -- zero
 
-unfoldable pub extentNumbered : ℕ → Extent
-extentNumbered n =
-    pick (eqb n 0) Whole
-    (pick (eqb n 1) TooShort (pick (eqb n 2) LengthNotDigits (pick (eqb n 3) OtherLength CutShort)))
+abbrev pub extentShape : Shape
+extentShape =
+    within extentBytes  -- four bytes
 
--- ---- the one-time key: held 1, key 8, zero if none
+abbrev pub suoShape : Shape
+suoShape =
+    extentShape ⊗  -- batch.suo.extent
+    flag ⊗  -- batch.suo.blank
+    text 161  -- batch.suo.text
 
-unfoldable pub keyBytes : Key → List ℕ
-keyBytes Missing = replicate 9 0
-keyBytes (Is key) = (1 ∷ []) ++ bytesOf 8 key
+abbrev pub onceShape : Shape
+onceShape =
+    number 8  -- the one-time key
 
-unfoldable pub keyOf : List ℕ → Key
-keyOf l = pick (eqb (num (part 0 1 l)) 1) (Is (num (part 1 8 l))) Missing
+abbrev pub stateShape : Shape
+stateShape =
+    number 8 ⊗  -- chain
+    number 8 ⊗  -- block
+    number 8  -- count of characters
 
--- ---- a digest's state: chain, block, count of characters
+abbrev pub runningShape : Shape
+runningShape =
+    perhaps onceShape ⊗  -- a one-time key is held
+    stateShape ⊗  -- digest at the record's start
+    stateShape ⊗  -- digest after the record's last character that is no blank
+    stateShape  -- digest after the record's last character
 
-unfoldable pub stateBytes : State → List ℕ
-stateBytes s = joined (bytesOf 8 (s .chain) ∷ bytesOf 8 (s .block) ∷ bytesOf 8 (s .n) ∷ [])
+abbrev pub batchShape : Shape
+batchShape =
+    within suoShape ⊗  -- SUO
+    within runningShape  -- key and digest
 
-unfoldable pub stateOf : List ℕ → State
-stateOf l = record { chain = num (part 0 8 l); block = num (part 8 8 l); n = num (part 16 8 l) }
+abbrev pub sessionShape : Shape
+sessionShape =
+    within frontShape ⊗  -- numbers, sender and line
+    within gatheredShape ⊗  -- the record or message on its way
+    within batchShape  -- the open frame
+
+-- ---- the fields are a session's
+
+abbrev pub gatheredFrom : Value gatheredShape → Gathered
+gatheredFrom (count, (blank, characters)) = record { count = count; blank = blank; text = characters }
+
+abbrev pub suoFrom : Value suoShape → Collected
+suoFrom ((extent, rest), (blank, characters)) = record { extent = extent; blank = blank; text = characters }
+
+abbrev pub keyFrom : Value (perhaps onceShape) → Key
+keyFrom none = Missing
+keyFrom (some key) = Is key
+
+abbrev pub stateFrom : Value stateShape → State
+stateFrom (chain, (block, n)) = record { chain = chain; block = block; n = n }
+
+abbrev pub batchFrom : Value batchShape → Batch
+batchFrom (suo, (once, (start, (solid, last)))) =
+    record {
+      suo = suoFrom suo;
+      once = keyFrom once;
+      running = record { start = stateFrom start; solid = stateFrom solid; last = stateFrom last };
+    }
+
+abbrev pub sessionFrom : Value sessionShape → Session
+sessionFrom (((opened, (ended, (told, (place, (day, (time, (kind, (clock, made)))))))), (sender, (size, cr))), (gathered, batch)) =
+    record {
+      opened = opened;
+      ended = ended;
+      told = told;
+      opening = record { today = record { yymmdd = day }; time = time; kind = kind; clock = clock };
+      made = made;
+      sender = sender;
+      line = record { size = size; cr = cr };
+      place = place;
+      gathered = gatheredFrom gathered;
+      batch = batchFrom batch;
+    }
+
+-- ---- and a session's fields
+
+abbrev pub headTo : Session → Value headShape
+headTo s =
+    let o = s .opening in
+    (s .opened, (s .ended, (s .told, (s .place, (o .today .yymmdd, (o .time, (o .kind, (o .clock, s .made))))))))
+
+abbrev pub frontTo : Session → Value frontShape
+frontTo s = (headTo s, (s .sender, (s .line .size, s .line .cr)))
+
+abbrev pub gatheredTo : Gathered → Value gatheredShape
+gatheredTo g = (g .count, (g .blank, g .text))
+
+abbrev pub extentTo : Extent → Value extentShape
+extentTo x = (x, (tt, (tt, tt)))
+
+abbrev pub suoTo : Collected → Value suoShape
+suoTo c = (extentTo (c .extent), (c .blank, c .text))
+
+abbrev pub keyTo : Key → Value (perhaps onceShape)
+keyTo Missing = none
+keyTo (Is key) = some key
+
+abbrev pub stateTo : State → Value stateShape
+stateTo s = (s .chain, (s .block, s .n))
+
+abbrev pub runningTo : Batch → Value runningShape
+runningTo b = (keyTo (b .once), (stateTo (b .running .start), (stateTo (b .running .solid), stateTo (b .running .last))))
+
+abbrev pub batchTo : Batch → Value batchShape
+batchTo b = (suoTo (b .suo), runningTo b)
+
+abbrev pub sessionTo : Session → Value sessionShape
+sessionTo s = (frontTo s, (gatheredTo (s .gathered), batchTo (s .batch)))
 
 -- ---- a session
 
-abbrev pub flag : Bool → List ℕ
-flag b = bytesOf 1 (one b)
-
 unfoldable pub sessionBytes : Session → List ℕ
-sessionBytes s =
-    joined
-    (flag (s .opened) ∷
-    flag (s .ended) ∷
-    flag (s .told) ∷
-    bytesOf 1 (placeNumber (s .place)) ∷
-    bytesOf 4 (s .opening .today .yymmdd) ∷
-    bytesOf 4 (s .opening .time) ∷
-    bytesOf 4 (s .opening .kind) ∷
-    bytesOf 8 (s .opening .clock) ∷
-    bytesOf 8 (s .made) ∷
-    s .sender ∷
-    bytesOf 4 (s .line .size) ∷
-    flag (s .line .cr) ∷
-    bytesOf 4 (s .gathered .count) ∷
-    flag (s .gathered .blank) ∷
-    s .gathered .text ∷
-    bytesOf 4 (extentNumber (s .batch .suo .extent)) ∷
-    flag (s .batch .suo .blank) ∷
-    s .batch .suo .text ∷
-    keyBytes (s .batch .once) ∷
-    stateBytes (s .batch .running .start) ∷
-    stateBytes (s .batch .running .solid) ∷
-    stateBytes (s .batch .running .last) ∷ [])
-
-abbrev pub flagAt : ℕ → List ℕ → Bool
-flagAt at l = eqb (num (part at 1 l)) 1
+sessionBytes s = enc sessionShape (sessionTo s)
 
 unfoldable pub sessionOf : List ℕ → Session
-sessionOf l =
-    record {
-      opened = flagAt 0 l;
-      ended = flagAt 1 l;
-      told = flagAt 2 l;
-      opening =
-          record {
-            today = record { yymmdd = num (part 4 4 l) };
-            time = num (part 8 4 l);
-            kind = num (part 12 4 l);
-            clock = num (part 16 8 l);
-          };
-      made = num (part 24 8 l);
-      sender = part 32 25 l;
-      line = record { size = num (part 57 4 l); cr = flagAt 61 l };
-      place = placeNumbered (num (part 3 1 l));
-      gathered = record { count = num (part 62 4 l); blank = flagAt 66 l; text = part 67 161 l };
-      batch =
-          record {
-            suo = record { extent = extentNumbered (num (part 228 4 l)); blank = flagAt 232 l; text = part 233 161 l };
-            once = keyOf (part 394 9 l);
-            running =
-                record {
-                  start = stateOf (part 403 24 l);
-                  solid = stateOf (part 427 24 l);
-                  last = stateOf (part 451 24 l);
-                };
-          };
-    }
+sessionOf l = sessionFrom (dec sessionShape 0 l)
 
--- the bytes are just what the session they say is written as: flags are 0 or 1, the place is 0 to 6, the SUO's extent 0 to 4, and what is not there is zero
+-- the bytes are just what the session they say is written as: flags are 0 or 1, the place is 0 to 6, the SUO's extent 0 to 4, and what is
+-- not there is zero
 unfoldable pub isSession : List ℕ → Bool
 isSession b = both (eqb (length b) sessionSize) (same (sessionBytes (sessionOf b)) b)
 

@@ -1,37 +1,19 @@
-// A session as bytes that a host keeps between calls.
+// A session as bytes that a host keeps between calls. The offsets are those of docs/FORMAT.md.
 ghost use mathlib.Core.Path.{_≡_};
-ghost use mathlib.Core.Bool.{true, false};
 ghost use Prim.Native.Nat.{_+_, _≤_};
 ghost use lib.ListN.{length};
-ghost use Rattle.ground.specs.Choice.{one};
-ghost use Rattle.ground.specs.Lists.{part, same};
-ghost use Rattle.splices.specs.Bytes.{joined, splice};
-ghost use Rattle.session_bytes.specs.Session.{sessionSize, placeNumber, kindNumber, placeNumbered, extentNumber, extentNumbered, keyBytes, keyOf, stateBytes, stateOf, sessionBytes, sessionOf, isSession, sessionIn, sessionStored};
-ghost use Rattle.session_bytes.specs.Groups.{markFields, openingFields, lineFields, headFields, textFields, runningFields, batchFields, Flags};
+ghost use Rattle.splices.specs.Bytes.{splice};
+ghost use Rattle.codec.specs.Layout.{perhaps, enc, dec, ok, Sized};
+ghost use Rattle.codec.specs.Rows.{cells};
+ghost use Rattle.session_bytes.specs.Names.{kindNumber, placeNumber, placeNumbered, extentNumber, extentNumbered};
+ghost use Rattle.session_bytes.specs.Session.{sessionSize, headShape, frontShape, gatheredShape, suoShape, onceShape, stateShape};
+ghost use Rattle.session_bytes.specs.Session.{runningShape, batchShape, stateFrom, headTo, frontTo, gatheredTo, suoTo, runningTo};
+ghost use Rattle.session_bytes.specs.Session.{batchTo, sessionBytes, sessionOf, isSession, sessionIn, sessionStored};
 
 // The bytes that a session takes.
 const SIZE: usize = 475;
 
 // ---- reading, where the bytes have a session's length
-
-fn sender_in(b: &[u8]) -> [u8; 25]
-    requires { ⌜ length (now b) ≡ sessionSize ⌝ }
-    ensures { λ r. ⌜ r ≡ part 32 25 (now (b .entry)) ⌝ }
-{
-    let mut out = [0u8; 25];
-    text::copy(&mut out, &b[32..57]);
-    out
-}
-
-fn text_at(b: &[u8], at: usize) -> [u8; 161]
-    requires { ⌜ at + 161 ≤ length (now b) ⌝ }
-    ensures { λ r. ⌜ r ≡ part at 161 (now (b .entry)) ⌝ }
-{
-    let end = at + 161;
-    let mut out = [0u8; 161];
-    text::copy(&mut out, &b[at..end]);
-    out
-}
 
 fn place_numbered(n: u32) -> session::Place
     ensures { λ r. ⌜ r ≡ placeNumbered n ⌝ }
@@ -57,18 +39,18 @@ fn place_numbered(n: u32) -> session::Place
     session::Place::Closed
 }
 
-fn opening_in(b: &[u8]) -> answers::Opening
+fn opening_in(b: &[u8]) -> opening::Opening
     requires { ⌜ length (now b) ≡ sessionSize ⌝ }
     ensures { λ r. ⌜ r ≡ sessionOf (now (b .entry)) .opening ⌝ }
 {
     let today = calendar::Date {
-        yymmdd: splices::read4(b, 4),
+        yymmdd: codec::read4(b, 4),
     };
-    answers::Opening {
+    opening::Opening {
         today,
-        time: splices::read4(b, 8),
-        kind: splices::read4(b, 12),
-        clock: splices::read8(b, 16),
+        time: codec::read4(b, 8),
+        kind: codec::read4(b, 12),
+        clock: codec::read8(b, 16),
     }
 }
 
@@ -76,10 +58,11 @@ fn gathered_in(b: &[u8]) -> session::Gathered
     requires { ⌜ length (now b) ≡ sessionSize ⌝ }
     ensures { λ r. ⌜ r ≡ sessionOf (now (b .entry)) .gathered ⌝ }
 {
-    let text = text_at(b, 67);
+    let mut text = [0u8; 161];
+    codec::read_bytes(&mut text, b, 67);
     session::Gathered {
-        count: splices::read4(b, 62) as usize,
-        blank: splices::read1(b, 66) == 1,
+        count: codec::read4(b, 62) as usize,
+        blank: codec::read1(b, 66) == 1,
         text,
     }
 }
@@ -106,33 +89,35 @@ fn suo_in(b: &[u8]) -> message::Collected
     requires { ⌜ length (now b) ≡ sessionSize ⌝ }
     ensures { λ r. ⌜ r ≡ sessionOf (now (b .entry)) .batch .suo ⌝ }
 {
-    let text = text_at(b, 233);
+    let mut text = [0u8; 161];
+    codec::read_bytes(&mut text, b, 233);
     message::Collected {
-        extent: extent_numbered(splices::read4(b, 228)),
-        blank: splices::read1(b, 232) == 1,
+        extent: extent_numbered(codec::read1(b, 228)),
+        blank: codec::read1(b, 232) == 1,
         text,
     }
 }
 
 fn key_in(b: &[u8]) -> changeover::Key
     requires { ⌜ length (now b) ≡ sessionSize ⌝ }
-    ensures { λ r. ⌜ r ≡ keyOf (part 394 9 (now (b .entry))) ⌝ }
+    ensures { λ r. ⌜ r ≡ sessionOf (now (b .entry)) .batch .once ⌝ }
 {
-    if splices::read1(b, 394) != 1 {
+    if codec::read1(b, 394) != 1 {
         return changeover::Key::Missing;
     }
-    changeover::Key::Is(splices::read8(b, 395))
+    changeover::Key::Is(codec::read8(b, 395))
 }
 
 fn state_at(b: &[u8], at: usize) -> digest::State
     requires { ⌜ at + 24 ≤ length (now b) ⌝ }
-    ensures { λ r. ⌜ r ≡ stateOf (part at 24 (now (b .entry))) ⌝ }
+    ensures { λ r. ⌜ r ≡ stateFrom (dec stateShape at (now (b .entry))) ⌝ }
 {
-    digest::State {
-        chain: splices::read8(b, at),
-        block: splices::read8(b, at + 8),
-        n: splices::read8(b, at + 16),
-    }
+    let chain = codec::read8(b, at);
+    let at = at + 8;
+    let block = codec::read8(b, at);
+    let at = at + 8;
+    let n = codec::read8(b, at);
+    digest::State { chain, block, n }
 }
 
 fn batch_in(b: &[u8]) -> session::Batch
@@ -153,20 +138,21 @@ fn session_in(b: &[u8]) -> session::Session
     ensures { λ r. ⌜ r ≡ sessionOf (now (b .entry)) ⌝ }
 {
     let opening = opening_in(b);
-    let sender = sender_in(b);
+    let mut sender = [0u8; 25];
+    codec::read_bytes(&mut sender, b, 32);
     let line = session::Line {
-        size: splices::read4(b, 57),
-        cr: splices::read1(b, 61) == 1,
+        size: codec::read4(b, 57),
+        cr: codec::read1(b, 61) == 1,
     };
-    let place = place_numbered(splices::read1(b, 3));
+    let place = place_numbered(codec::read1(b, 3));
     let gathered = gathered_in(b);
     let batch = batch_in(b);
     session::Session {
-        opened: splices::read1(b, 0) == 1,
-        ended: splices::read1(b, 1) == 1,
-        told: splices::read1(b, 2) == 1,
+        opened: codec::read1(b, 0) == 1,
+        ended: codec::read1(b, 1) == 1,
+        told: codec::read1(b, 2) == 1,
         opening,
-        made: splices::read8(b, 24),
+        made: codec::read8(b, 24),
         sender,
         line,
         place,
@@ -177,43 +163,16 @@ fn session_in(b: &[u8]) -> session::Session
 
 // ---- exactness
 
-// Whether each flag byte is 0 or 1.
-fn are_flags(b: &[u8]) -> bool
-    requires { ⌜ length (now b) ≡ sessionSize ⌝ }
-    ensures yes { λ r. ⌜ (r ≡ true → Flags (now (b .entry))) ⌝ }
-    ensures no { λ r. ⌜ (r ≡ false → Flags (now (b .entry)) → ⊥) ⌝ }
-{
-    if splices::read1(b, 0) > 1 {
-        return false;
-    }
-    if splices::read1(b, 1) > 1 {
-        return false;
-    }
-    if splices::read1(b, 2) > 1 {
-        return false;
-    }
-    if splices::read1(b, 61) > 1 {
-        return false;
-    }
-    if splices::read1(b, 66) > 1 {
-        return false;
-    }
-    splices::read1(b, 232) <= 1
-}
-
 // Whether the 9 bytes of the one-time key are just what it is written as: all zero, unless it is held.
 fn is_exact_key(b: &[u8]) -> bool
     requires { ⌜ length (now b) ≡ sessionSize ⌝ }
-    ensures { λ r. ⌜ r ≡ same (keyBytes (keyOf (part 394 9 (now (b .entry))))) (part 394 9 (now (b .entry))) ⌝ }
+    ensures { λ r. ⌜ r ≡ ok (perhaps onceShape) 394 (now (b .entry)) ⌝ }
 {
-    let held = splices::read1(b, 394);
-    if held == 1 {
+    if codec::read1(b, 394) == 1 {
         return true;
     }
-    if held != 0 {
-        return false;
-    }
-    splices::read8(b, 395) == 0
+    let zeros = [0u8; 9];
+    codec::same_at(&zeros, b, 394)
 }
 
 // Whether bytes are a session's.
@@ -223,13 +182,28 @@ pub fn is_session(b: &[u8]) -> bool
     if b.len() != SIZE {
         return false;
     }
-    if !are_flags(b) {
+    if codec::read1(b, 0) > 1 {
         return false;
     }
-    if splices::read1(b, 3) > 6 {
+    if codec::read1(b, 1) > 1 {
         return false;
     }
-    if splices::read4(b, 228) > 4 {
+    if codec::read1(b, 2) > 1 {
+        return false;
+    }
+    if codec::read1(b, 3) > 6 {
+        return false;
+    }
+    if codec::read1(b, 61) > 1 {
+        return false;
+    }
+    if codec::read1(b, 66) > 1 {
+        return false;
+    }
+    if codec::read4(b, 228) > 4 {
+        return false;
+    }
+    if codec::read1(b, 232) > 1 {
         return false;
     }
     is_exact_key(b)
@@ -240,21 +214,14 @@ pub fn load(b: &[u8]) -> session::Session
     ensures { λ r. ⌜ r ≡ sessionIn (now (b .entry)) ⌝ }
 {
     if !is_session(b) {
-        return collecting::no_file();
+        return session::no_file();
     }
     session_in(b)
 }
 
 // ---- writing, where the bytes have a session's length
 
-// 1 for a flag that is set, else 0.
-fn flag_number(b: bool) -> u32
-    ensures { λ r. ⌜ r ≡ one b ⌝ }
-{
-    if b { 1 } else { 0 }
-}
-
-fn kind_number(k: message::Kind) -> u32
+fn kind_number(k: message::Kind) -> u64
     ensures { λ r. ⌜ r ≡ kindNumber k ⌝ }
 {
     match k {
@@ -264,7 +231,7 @@ fn kind_number(k: message::Kind) -> u32
     }
 }
 
-fn place_number(p: session::Place) -> u32
+fn place_number(p: session::Place) -> u64
     ensures { λ r. ⌜ r ≡ placeNumber p ⌝ }
 {
     match p {
@@ -288,113 +255,106 @@ fn extent_number(x: message::Extent) -> u32
     }
 }
 
-// The three flags and the place.
-fn store_marks(b: &mut [u8], s: session::Session)
-    requires { ⌜ length (now b) ≡ sessionSize ⌝ }
-    ensures { λ _. ⌜ now (b .exit) ≡ splice 0 (joined (markFields s)) (now (b .entry)) ⌝ }
+// The numbers before the sender.
+fn head_row(s: session::Session) -> [u64; 9]
+    ensures { λ r. ⌜ r ≡ cells headShape (headTo s) ⌝ }
 {
     let place = s.place;
-    splices::write1(b, 0, flag_number(s.opened));
-    splices::write1(b, 1, flag_number(s.ended));
-    splices::write1(b, 2, flag_number(s.told));
-    splices::write1(b, 3, place_number(place));
+    [
+        codec::flag_cell(s.opened),
+        codec::flag_cell(s.ended),
+        codec::flag_cell(s.told),
+        place_number(place),
+        s.opening.today.yymmdd as u64,
+        s.opening.time as u64,
+        s.opening.kind as u64,
+        s.opening.clock,
+        s.made,
+    ]
 }
 
-fn store_opening(b: &mut [u8], o: answers::Opening)
+// All that stands before the characters on their way.
+fn store_front(b: &mut [u8], s: session::Session)
     requires { ⌜ length (now b) ≡ sessionSize ⌝ }
-    ensures { λ _. ⌜ now (b .exit) ≡ splice 4 (joined (openingFields o)) (now (b .entry)) ⌝ }
+    ensures written { λ _. ⌜ now (b .exit) ≡ splice 0 (enc frontShape (frontTo s)) (now (b .entry)) ⌝ }
+    ensures sizes { λ _. ⌜ Sized frontShape (frontTo s) ⌝ }
 {
-    splices::write4(b, 4, o.today.yymmdd);
-    splices::write4(b, 8, o.time);
-    splices::write4(b, 12, o.kind);
-    splices::write8(b, 16, o.clock);
-}
-
-fn store_line(b: &mut [u8], l: session::Line)
-    requires { ⌜ length (now b) ≡ sessionSize ⌝ }
-    ensures { λ _. ⌜ now (b .exit) ≡ splice 57 (joined (lineFields l)) (now (b .entry)) ⌝ }
-{
-    splices::write4(b, 57, l.size);
-    splices::write1(b, 61, flag_number(l.cr));
-}
-
-fn store_head(b: &mut [u8], s: session::Session)
-    requires { ⌜ length (now b) ≡ sessionSize ⌝ }
-    ensures { λ _. ⌜ now (b .exit) ≡ splice 0 (joined (headFields s)) (now (b .entry)) ⌝ }
-{
-    let opening = s.opening;
-    let line = s.line;
-    store_marks(b, s);
-    store_opening(b, opening);
-    splices::write8(b, 24, s.made);
-    splices::write_bytes(b, 32, &s.sender);
-    store_line(b, line);
-}
-
-// A number, whether what was past the room was blank, and the characters.
-fn store_text(b: &mut [u8], at: usize, n: u32, blank: bool, text: &[u8])
-    requires { ⌜ (length (now text) ≡ 161) × (at + 166 ≤ length (now b)) ⌝ }
-    ensures { λ _. ⌜ now (b .exit) ≡ splice at (joined (textFields n blank (now (text .entry)))) (now (b .entry)) ⌝ }
-{
-    splices::write4(b, at, n);
-    splices::write1(b, at + 4, flag_number(blank));
-    splices::write_bytes(b, at + 5, text);
+    let head = head_row(s);
+    let line = [s.line.size as u64, codec::flag_cell(s.line.cr)];
+    codec::write_row(b, 0, &[1, 1, 1, 1, 4, 4, 4, 8, 8], &head);
+    codec::write_bytes(b, 32, &s.sender);
+    codec::write_row(b, 57, &[4, 1], &line);
 }
 
 // The count's lowest four bytes, and the characters.
 fn store_gathered(b: &mut [u8], g: session::Gathered)
     requires { ⌜ length (now b) ≡ sessionSize ⌝ }
-    ensures { λ _. ⌜ now (b .exit) ≡ splice 62 (joined (textFields (g .count) (g .blank) (g .text))) (now (b .entry)) ⌝ }
+    ensures written { λ _. ⌜ now (b .exit) ≡ splice 62 (enc gatheredShape (gatheredTo g)) (now (b .entry)) ⌝ }
+    ensures sizes { λ _. ⌜ Sized gatheredShape (gatheredTo g) ⌝ }
 {
-    let low = (g.count % 4294967296) as u32;
-    store_text(b, 62, low, g.blank, &g.text);
+    codec::write_number(b, 62, 4, g.count as u64);
+    codec::write1(b, 66, codec::flag_number(g.blank));
+    codec::write_bytes(b, 67, &g.text);
 }
 
-fn store_key(b: &mut [u8], k: changeover::Key)
+fn store_suo(b: &mut [u8], c: message::Collected)
     requires { ⌜ length (now b) ≡ sessionSize ⌝ }
-    ensures { λ _. ⌜ now (b .exit) ≡ splice 394 (keyBytes k) (now (b .entry)) ⌝ }
+    ensures written { λ _. ⌜ now (b .exit) ≡ splice 228 (enc suoShape (suoTo c)) (now (b .entry)) ⌝ }
+    ensures sizes { λ _. ⌜ Sized suoShape (suoTo c) ⌝ }
 {
-    let changeover::Key::Is(key) = k else {
-        let zeros = [0u8; 9];
-        splices::write_bytes(b, 394, &zeros);
-        return;
+    let extent = c.extent;
+    codec::write4(b, 228, extent_number(extent));
+    codec::write1(b, 232, codec::flag_number(c.blank));
+    codec::write_bytes(b, 233, &c.text);
+}
+
+// The numbers past the SUO: zeros where no key is held.
+fn running_row(a: session::Batch) -> [u64; 11]
+    ensures { λ r. ⌜ r ≡ cells runningShape (runningTo a) ⌝ }
+{
+    let once = a.once;
+    let start = a.running.start;
+    let solid = a.running.solid;
+    let last = a.running.last;
+    let changeover::Key::Is(key) = once else {
+        return [
+            0,
+            0,
+            start.chain,
+            start.block,
+            start.n,
+            solid.chain,
+            solid.block,
+            solid.n,
+            last.chain,
+            last.block,
+            last.n,
+        ];
     };
-    splices::write1(b, 394, 1);
-    splices::write8(b, 395, key);
-}
-
-fn store_state(b: &mut [u8], at: usize, s: digest::State)
-    requires { ⌜ at + 24 ≤ length (now b) ⌝ }
-    ensures { λ _. ⌜ now (b .exit) ≡ splice at (stateBytes s) (now (b .entry)) ⌝ }
-{
-    splices::write8(b, at, s.chain);
-    splices::write8(b, at + 8, s.block);
-    splices::write8(b, at + 16, s.n);
-}
-
-fn store_running(b: &mut [u8], r: digest::Running)
-    requires { ⌜ length (now b) ≡ sessionSize ⌝ }
-    ensures { λ _. ⌜ now (b .exit) ≡ splice 403 (joined (runningFields r)) (now (b .entry)) ⌝ }
-{
-    let start = r.start;
-    let solid = r.solid;
-    let last = r.last;
-    store_state(b, 403, start);
-    store_state(b, 427, solid);
-    store_state(b, 451, last);
+    [
+        1,
+        key,
+        start.chain,
+        start.block,
+        start.n,
+        solid.chain,
+        solid.block,
+        solid.n,
+        last.chain,
+        last.block,
+        last.n,
+    ]
 }
 
 fn store_batch(b: &mut [u8], a: session::Batch)
     requires { ⌜ length (now b) ≡ sessionSize ⌝ }
-    ensures { λ _. ⌜ now (b .exit) ≡ splice 228 (joined (batchFields a)) (now (b .entry)) ⌝ }
+    ensures written { λ _. ⌜ now (b .exit) ≡ splice 228 (enc batchShape (batchTo a)) (now (b .entry)) ⌝ }
+    ensures sizes { λ _. ⌜ Sized batchShape (batchTo a) ⌝ }
 {
     let suo = a.suo;
-    let once = a.once;
-    let running = a.running;
-    let extent = suo.extent;
-    store_text(b, 228, extent_number(extent), suo.blank, &suo.text);
-    store_key(b, once);
-    store_running(b, running);
+    let running = running_row(a);
+    store_suo(b, suo);
+    codec::write_row(b, 394, &[1, 8, 8, 8, 8, 8, 8, 8, 8, 8, 8], &running);
 }
 
 fn store_session(b: &mut [u8], s: session::Session)
@@ -403,7 +363,7 @@ fn store_session(b: &mut [u8], s: session::Session)
 {
     let gathered = s.gathered;
     let batch = s.batch;
-    store_head(b, s);
+    store_front(b, s);
     store_gathered(b, gathered);
     store_batch(b, batch);
 }

@@ -4,13 +4,13 @@ use mathlib.Core.Path.{_≡_, refl, sym, ap, _∙_}
 use mathlib.Core.List.{List, []}
 use Prim.Native.Nat.{ℕ, _+_, _*_, _≤_, _<_}
 use native.Mathlib.Omega.{arith}
-use borrow.Author.Tests.{lt-leb}
 use lib.ListN.{length, getD, replicate, List·getD-eq-default}
 use Rattle.ground.specs.Choice.{pick}
 use Rattle.ground.specs.Lists.{part}
-use Rattle.ground.proofs.Choices.{skips}
 use Rattle.splices.specs.Bytes.{num, chunks, nums}
-use Rattle.record.specs.Layout.{recordWidth, settingsWidth, previousOf, pairOf, customerOf, settingsOf, rawAt, customerAt, settingsAt}
+use Rattle.codec.specs.Layout.{width, dec}
+use Rattle.customer_bytes.specs.Layout.{recordWidth, customerOf, customerAt, settingsAt}
+use Rattle.customer_bytes.proofs.Laws as bytes
 use Rattle.table.specs.Table.{Table, nobody, customerIn}
 use Rattle.table.specs.Written.{tableSize, customersStart}
 use Rattle.table.specs.Decode.{holidayCount, customerCount, tableOf}
@@ -20,25 +20,18 @@ use Rattle.table.proofs.Turns
 
 -- all-zero bytes say nobody
 zeros : customerOf (replicate recordWidth 0) ≡ nobody
-unfolding customerOf nobody part num nums chunks pairOf previousOf pick
+unfolding customerOf nobody dec width part num nums chunks pick
 zeros = refl
-
-raw-past : (w : ℕ) (b : List ℕ) → 0 < w → rawAt w (length b) b ≡ replicate w 0
-unfolding rawAt
-raw-past w b h =
-    let k : length b < length b + w = omega arith in
-    skips _ _ _ (lt-leb (length b + w) (length b) k)
 
 -- ---- past the end
 
 customer-past : (b : List ℕ) → customerAt (length b) b ≡ nobody
-unfolding customerAt
-customer-past b = ap customerOf (raw-past recordWidth b (omega arith)) ∙ zeros
+customer-past b = bytes.customer-past (length b) b (omega arith) ∙ zeros
 
 pub settings-past : (b : List ℕ) → (length b ≡ tableSize → ⊥) → settingsAt (length b) b ≡ tableOf b .settings
-unfolding settingsAt
 settings-past b n =
-    ap settingsOf (raw-past settingsWidth b (omega arith) ∙ sym (raw-past settingsWidth [] (omega arith)))
+    bytes.settings-past (length b) b (omega arith)
+    ∙ sym (bytes.settings-past 0 [] (omega arith))
     ∙ sym (ap (λ (t : Table). t .settings) (table-other b n))
 
 pub load-other : (b : List ℕ) (i : ℕ) → (length b ≡ tableSize → ⊥) → customerAt (length b) b ≡ customerIn (tableOf b) i
@@ -47,7 +40,8 @@ load-other b i n = customer-past b ∙ sym (ap (λ (t : Table). getD (t .custome
 
 -- ---- bytes of the right length
 
-in-table : (b : List ℕ) (i : ℕ) → length b ≡ tableSize → customerIn (tableOf b) i ≡ getD (customersAt (customersStart (holidayCount b)) (customerCount b) b) i nobody
+in-table : (b : List ℕ) (i : ℕ) → length b ≡ tableSize → customerIn (tableOf b) i
+    ≡ getD (customersAt (customersStart (holidayCount b)) (customerCount b) b) i nobody
 unfolding customerIn
 in-table b i n = ap (λ (t : Table). getD (t .customers) i nobody) (table-sized b n)
 
@@ -60,5 +54,5 @@ load-past b i n h =
 pub load-there : (b : List ℕ) (i : ℕ) → length b ≡ tableSize → i < customerCount b
     → customerAt (customersStart (holidayCount b) + recordWidth * i) b ≡ customerIn (tableOf b) i
 load-there b i n h =
-    Turns.customer-at (customersStart (holidayCount b) + recordWidth * i) b (omega arith)
+    bytes.customer-at (customersStart (holidayCount b) + recordWidth * i) b (omega arith)
     ∙ sym (in-table b i n ∙ Turns.getD-customers (customerCount b) (customersStart (holidayCount b)) b i nobody h)

@@ -11,10 +11,11 @@ use lib.Seq.{getD-set-other, getD-set-same}
 use Rattle.ground.specs.Choice.{both, pick}
 use Rattle.ground.specs.Lists.{same}
 use Rattle.ground.proofs.Choices.{left, right, join, picks, skips, same-eq, eq-same}
-use Rattle.text.proofs.Lists.{refuted}
+use Rattle.ground.proofs.Bools.{refuted}
 use Rattle.customer.specs.Customer.{soundCustomer}
 use Rattle.customer.specs.declared.Customer.{Customer}
-use Rattle.table.specs.Table.{Table, placeFrom, isUnknown, distinct, customerFits, eachSound, placeOf, nobody, customerIn, withCustomer, withDay, withSeed}
+use Rattle.table.specs.Table.{Table, placeFrom, isUnknown, distinct, customerFits, eachSound, placeOf, nobody, customerIn}
+use Rattle.table.specs.Table.{withCustomer, withDay, withSeed}
 use Rattle.table.specs.Named.{customerAt, replacedAt, named, withNamed}
 use Rattle.table.specs.declared.Found.{Found}
 use Rattle.table.specs.declared.Found.the-variants.{At, Unknown}
@@ -27,12 +28,14 @@ unfolding placeFrom pick
 place-below [] k x i e = let z : _≡_ {A = ℕ} 0 1 = cc in absurd (omega arith)
 place-below (c ∷ l) k x i e = go (same (c .who) x) e (place-below l (k + 1) x i)
   where
-    go : (t : Bool) → pick t (At k) (placeFrom (k + 1) x l) ≡ At i → (placeFrom (k + 1) x l ≡ At i → (k + 1 ≤ i) × (i < k + 1 + length l)) → (k ≤ i) × (i < k + suc (length l))
+    go : (t : Bool) → pick t (At k) (placeFrom (k + 1) x l) ≡ At i
+        → (placeFrom (k + 1) x l ≡ At i → (k + 1 ≤ i) × (i < k + 1 + length l)) → (k ≤ i) × (i < k + suc (length l))
     go true f r = let q : k ≡ i = cc in (omega arith, omega arith)
     go false f r = let p = r f in (omega arith, omega arith)
 
 -- and its customer has the name
-place-has : (l : List Customer) (k : ℕ) (x : List ℕ) (m i : ℕ) (d : Customer) → placeFrom k x l ≡ At m → m ≡ k + i → same (getD l i d .who) x ≡ true
+place-has : (l : List Customer) (k : ℕ) (x : List ℕ) (m i : ℕ) (d : Customer) → placeFrom k x l ≡ At m → m ≡ k + i
+    → same (getD l i d .who) x ≡ true
 unfolding placeFrom pick
 place-has [] k x m i d e q = let z : _≡_ {A = ℕ} 0 1 = cc in absurd (omega arith)
 place-has (c ∷ l) k x m zero d e q = go (same (c .who) x) refl e
@@ -42,7 +45,8 @@ place-has (c ∷ l) k x m zero d e q = go (same (c .who) x) refl e
     go false f g = let p = place-below l (k + 1) x m g in absurd (omega arith)
 place-has (c ∷ l) k x m (suc i) d e q = go (same (c .who) x) e (place-has l (k + 1) x m i d)
   where
-    go : (v : Bool) → pick v (At k) (placeFrom (k + 1) x l) ≡ At m → (placeFrom (k + 1) x l ≡ At m → m ≡ k + 1 + i → same (getD l i d .who) x ≡ true) → same (getD l i d .who) x ≡ true
+    go : (v : Bool) → pick v (At k) (placeFrom (k + 1) x l) ≡ At m
+        → (placeFrom (k + 1) x l ≡ At m → m ≡ k + 1 + i → same (getD l i d .who) x ≡ true) → same (getD l i d .who) x ≡ true
     go true g r = let p : k ≡ m = cc in absurd (omega arith)
     go false g r = r g (omega arith)
 
@@ -77,13 +81,15 @@ unknown-first : (c : Customer) (l : List Customer) (k : ℕ) (x : List ℕ) → 
 unfolding placeFrom pick isUnknown
 unknown-first c l k x e = go (same (c .who) x) refl e
   where
-    go : (t : Bool) → same (c .who) x ≡ t → isUnknown (pick t (At k) (placeFrom (k + 1) x l)) ≡ true → (same (c .who) x ≡ false) × (isUnknown (placeFrom (k + 1) x l) ≡ true)
+    go : (t : Bool) → same (c .who) x ≡ t → isUnknown (pick t (At k) (placeFrom (k + 1) x l)) ≡ true → (same (c .who) x ≡ false)
+        × (isUnknown (placeFrom (k + 1) x l) ≡ true)
     go true f g = let z : _≡_ {A = Bool} false true = g in (cc, cc)
     go false f g = (f, g)
 
 -- ---- one customer is another of the same name
 
-place-set : (l : List Customer) (i : ℕ) (c d : Customer) → c .who ≡ getD l i d .who → (k : ℕ) (x : List ℕ) → placeFrom k x (set l i c) ≡ placeFrom k x l
+place-set : (l : List Customer) (i : ℕ) (c d : Customer) → c .who ≡ getD l i d .who → (k : ℕ) (x : List ℕ) → placeFrom k x (set l i c)
+    ≡ placeFrom k x l
 unfolding placeFrom
 place-set [] i c d e k x = refl
 place-set (a ∷ l) zero c d e k x = rw e
@@ -96,7 +102,8 @@ distinct-set (b ∷ l) zero c d e a = join _ _ (rw e (left _ _ a)) (right _ _ a)
 distinct-set (b ∷ l) (suc i) c d e a =
     join _ _ (ap isUnknown (place-set l i c d e 0 (b .who)) ∙ left _ _ a) (distinct-set l i c d e (right _ _ a))
 
-pub each-set : (l : List Customer) (i : ℕ) (c : Customer) → both (customerFits c) (soundCustomer c) ≡ true → eachSound l ≡ true → eachSound (set l i c) ≡ true
+pub each-set : (l : List Customer) (i : ℕ) (c : Customer) → both (customerFits c) (soundCustomer c) ≡ true → eachSound l ≡ true
+    → eachSound (set l i c) ≡ true
 unfolding eachSound
 each-set [] i c o a = a
 each-set (b ∷ l) zero c o a = join _ _ o (right _ _ a)
@@ -104,29 +111,35 @@ each-set (b ∷ l) (suc i) c o a = join _ _ (left _ _ a) (each-set l i c o (righ
 
 -- ---- one customer more
 
-place-more : (l : List Customer) (c : Customer) (k : ℕ) (x : List ℕ) → same (c .who) x ≡ false → isUnknown (placeFrom k x l) ≡ true → isUnknown (placeFrom k x (l ++ (c ∷ []))) ≡ true
+place-more : (l : List Customer) (c : Customer) (k : ℕ) (x : List ℕ) → same (c .who) x ≡ false → isUnknown (placeFrom k x l) ≡ true
+    → isUnknown (placeFrom k x (l ++ (c ∷ []))) ≡ true
 unfolding placeFrom pick
 place-more [] c k x n u = rw n u
 place-more (b ∷ l) c k x n u =
     let p = unknown-first b l k x u in
     rw (p .0) (place-more l c (k + 1) x n (p .1))
 
-pub distinct-more : (l : List Customer) (c : Customer) → isUnknown (placeFrom 0 (c .who) l) ≡ true → distinct l ≡ true → distinct (l ++ (c ∷ [])) ≡ true
+pub distinct-more : (l : List Customer) (c : Customer) → isUnknown (placeFrom 0 (c .who) l) ≡ true → distinct l ≡ true
+    → distinct (l ++ (c ∷ [])) ≡ true
 unfolding distinct placeFrom isUnknown
 distinct-more [] c u a = join _ _ refl refl
 distinct-more (b ∷ l) c u a =
     let p = unknown-first b l 0 (c .who) u in
-    let n : same (c .who) (b .who) ≡ false = refuted _ (λ e. let z : _≡_ {A = Bool} true false = sym (eq-same (b .who) (c .who) (sym (same-eq _ _ e))) ∙ p .0 in let y : _≡_ {A = ℕ} 0 1 = cc in omega arith) in
+    let n : same (c .who) (b .who)
+    ≡ false = refuted _ (λ e. let z : _≡_ {A = Bool} true false = sym (eq-same (b .who) (c .who) (sym (same-eq _ _ e)))
+    ∙ p .0 in let y : _≡_ {A = ℕ} 0 1 = cc in omega arith) in
     join _ _ (place-more l c 0 (b .who) n (left _ _ a)) (distinct-more l c (unknown-any l 0 (0 + 1) (c .who) ∙ p .1) (right _ _ a))
 
-pub each-more : (l : List Customer) (c : Customer) → both (customerFits c) (soundCustomer c) ≡ true → eachSound l ≡ true → eachSound (l ++ (c ∷ [])) ≡ true
+pub each-more : (l : List Customer) (c : Customer) → both (customerFits c) (soundCustomer c) ≡ true → eachSound l ≡ true
+    → eachSound (l ++ (c ∷ [])) ≡ true
 unfolding eachSound
 each-more [] c o a = join _ _ o refl
 each-more (b ∷ l) c o a = join _ _ (left _ _ a) (each-more l c o (right _ _ a))
 
 -- ---- each has the place that is found for it
 
-pub place-own : (l : List Customer) (i k : ℕ) (d : Customer) → distinct l ≡ true → i < length l → placeFrom k (getD l i d .who) l ≡ At (k + i)
+pub place-own : (l : List Customer) (i k : ℕ) (d : Customer) → distinct l ≡ true → i < length l → placeFrom k (getD l i d .who) l
+    ≡ At (k + i)
 unfolding distinct placeFrom
 place-own [] i k d a h = absurd (not-suc-le-zero h)
 place-own (c ∷ l) zero k d a h = picks _ _ _ (eq-same (c .who) (c .who) refl) ∙ ap At (sym (add-zero k))
@@ -157,7 +170,8 @@ unfolding customerIn withCustomer
 stored-is t i c h = getD-set-same (t .customers) i c nobody h
 
 -- a customer that keeps its name moves nobody's place
-pub same-place : (t : Table) (i : ℕ) (c : Customer) (who : List ℕ) → c .who ≡ customerIn t i .who → placeOf (withCustomer t i c) who ≡ placeOf t who
+pub same-place : (t : Table) (i : ℕ) (c : Customer) (who : List ℕ) → c .who ≡ customerIn t i .who → placeOf (withCustomer t i c) who
+    ≡ placeOf t who
 unfolding placeOf customerIn withCustomer
 same-place t i c who e = place-set (t .customers) i c nobody e 0 who
 
@@ -168,7 +182,8 @@ found-is t who i e =
     let p = place-below (t .customers) 0 who i e in
     (omega (arith, p .1), same-eq _ _ (place-has (t .customers) 0 who i i nobody e (omega arith)))
 
-pub distinct-with : (t : Table) (i : ℕ) (c : Customer) → c .who ≡ customerIn t i .who → distinct (t .customers) ≡ true → distinct (set (t .customers) i c) ≡ true
+pub distinct-with : (t : Table) (i : ℕ) (c : Customer) → c .who ≡ customerIn t i .who → distinct (t .customers) ≡ true
+    → distinct (set (t .customers) i c) ≡ true
 unfolding customerIn
 distinct-with t i c e a = distinct-set (t .customers) i c nobody e a
 

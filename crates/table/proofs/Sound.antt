@@ -13,7 +13,8 @@ use Rattle.calendar.specs.Dates.{realDate}
 use Rattle.customer.specs.Customer.{soundCustomer}
 use Rattle.customer.specs.Settings.{soundSettings}
 use Rattle.customer.specs.declared.Customer.{Customer}
-use Rattle.table.specs.Table.{Table, customerFits, settingsFit, rising, distinct, eachSound, soundTable, placeOf, customerIn, withCustomer, withAdded, withDay, withSeed}
+use Rattle.table.specs.Table.{Table, customerFits, settingsFit, rising, distinct, eachSound, soundTable, placeOf, customerIn}
+use Rattle.table.specs.Table.{withCustomer, withAdded, withDay, withSeed}
 use Rattle.table.specs.declared.Found.the-variants.{At, Unknown}
 use Rattle.table.proofs.Places
 

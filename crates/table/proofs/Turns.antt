@@ -3,20 +3,18 @@
 use mathlib.Core.Path.{_≡_, refl, sym, ap, _∙_}
 use mathlib.Core.List.{List, [], _∷_}
 use mathlib.Core.Bool.{Bool, true, false}
-use Prim.Native.Nat.{ℕ, zero, suc, _+_, _*_, _≤_, _<_}
+use Prim.Native.Nat.{ℕ, zero, suc, _+_, _*_, _<_}
 use native.Mathlib.Nat.{add-zero, not-suc-le-zero, le-of-suc-le-suc}
 use native.Mathlib.Omega.{arith}
-use borrow.Author.Tests.{le-leb}
-use lib.ListN.{length, take, drop, getD, length-map}
-use lib.Seq.{drop-drop}
+use lib.ListN.{length, getD, length-map}
 use Rattle.ground.specs.Choice.{both, pick}
 use Rattle.ground.specs.Lists.{all, part, same}
-use Rattle.ground.proofs.Choices.{picks, decides}
+use Rattle.ground.proofs.Choices.{decides, same-eq, eq-same}
 use Rattle.calendar.specs.Dates.{realDate, earlier}
-use Rattle.splices.specs.Bytes.{num, numAt, chunks, nums}
-use Rattle.splices.proofs.Splice
-use Rattle.splices.proofs.Chunks
-use Rattle.record.specs.Layout.{recordWidth, customerOf, rawAt, customerAt, exactAt}
+use Rattle.splices.specs.Bytes.{num}
+use Rattle.codec.specs.Layout.{number, many, width, repeated, dec}
+use Rattle.codec.proofs.Laws.{repeated-length}
+use Rattle.customer_bytes.specs.Layout.{recordWidth, customerShape, customerFrom, customerAt, exactAt}
 use Rattle.customer.specs.Customer.{soundCustomer}
 use Rattle.customer.specs.declared.Customer.{Customer}
 use Rattle.table.specs.Table.{rising, placeFrom, isUnknown}
@@ -27,58 +25,53 @@ use Rattle.table.specs.declared.Found.the-variants.{At, Unknown}
 -- ---- n from p on, where n is m + 1
 
 pub dates-suc : (p n m : ℕ) (b : List ℕ) → n ≡ suc m → datesAt p n b ≡ num (part p 4 b) ∷ datesAt (p + 4) m b
-unfolding datesAt nums chunks part
-dates-suc p n m b e = rw e (rw drop-drop refl)
+unfolding datesAt dec repeated width
+dates-suc p n m b e = rw e
 
-pub customers-suc : (p n m : ℕ) (b : List ℕ) → n ≡ suc m → customersAt p n b ≡ customerOf (part p recordWidth b) ∷ customersAt (p + recordWidth) m b
-unfolding customersAt chunks part
-customers-suc p n m b e = rw e (rw drop-drop refl)
+pub customers-suc : (p n m : ℕ) (b : List ℕ) → n ≡ suc m → customersAt p n b ≡ customerFrom (dec customerShape p b)
+    ∷ customersAt (p + recordWidth) m b
+unfolding customersAt dec repeated width
+customers-suc p n m b e = rw e
 
 pub dates-none : (p n : ℕ) (b : List ℕ) → n ≡ 0 → datesAt p n b ≡ []
-unfolding datesAt nums chunks
+unfolding datesAt dec repeated
 dates-none p n b e = rw e
 
 pub customers-none : (p n : ℕ) (b : List ℕ) → n ≡ 0 → customersAt p n b ≡ []
-unfolding customersAt chunks
+unfolding customersAt dec repeated
 customers-none p n b e = rw e
 
 pub dates-length : (p n : ℕ) (b : List ℕ) → length (datesAt p n b) ≡ n
-unfolding datesAt
-dates-length p n b = Chunks.nums-length 4 n (drop p b)
-
-pub getD-dates : (p n : ℕ) (b : List ℕ) (k : ℕ) → k < n → p + 4 * n ≤ length b → numAt 4 (p + 4 * k) b ≡ getD (datesAt p n b) k 0
-unfolding datesAt part
-getD-dates p n b k h w =
-    Splice.numAt-fits 4 (p + 4 * k) b (omega arith)
-    ∙ sym (Chunks.getD-nums 4 n (drop p b) k h ∙ ap (λ (x : List ℕ). num (take 4 x)) (drop-drop (4 * k) p b))
+unfolding datesAt dec
+dates-length p n b = repeated-length _ (width (number 4)) n p
 
 pub customers-length : (p n : ℕ) (b : List ℕ) → length (customersAt p n b) ≡ n
-unfolding customersAt
-customers-length p n b = length-map (chunks recordWidth n (drop p b)) customerOf ∙ Chunks.chunks-length recordWidth n (drop p b)
+unfolding customersAt dec
+customers-length p n b = length-map (dec (many n customerShape) p b) customerFrom ∙ repeated-length _ (width customerShape) n p
 
--- ---- a record that lies within the bytes, and one that does not
+pub who-at : (p : ℕ) (b : List ℕ) → customerFrom (dec customerShape p b) .who ≡ part p 25 b
+unfolding dec
+who-at p b = refl
 
-pub raw-fits : (w at : ℕ) (l : List ℕ) → at + w ≤ length l → rawAt w at l ≡ part at w l
-unfolding rawAt
-raw-fits w at l h = picks _ _ _ (le-leb _ _ h)
+-- dates and customers by their places
+pub getD-dates : (n p : ℕ) (b : List ℕ) (k : ℕ) → k < n → num (part (p + 4 * k) 4 b) ≡ getD (datesAt p n b) k 0
+getD-dates zero p b k h = absurd (not-suc-le-zero h)
+getD-dates (suc n) p b zero h =
+    rw (dates-suc p (suc n) n b refl) (ap (λ (j : ℕ). num (part j 4 b)) (add-zero p))
+getD-dates (suc n) p b (suc k) h =
+    let e : p + 4 * suc k ≡ p + 4 + 4 * k = omega arith in
+    rw (dates-suc p (suc n) n b refl)
+    (ap (λ (j : ℕ). num (part j 4 b)) e ∙ getD-dates n (p + 4) b k (le-of-suc-le-suc h))
 
-pub customer-at : (p : ℕ) (b : List ℕ) → p + recordWidth ≤ length b → customerAt p b ≡ customerOf (part p recordWidth b)
-unfolding customerAt
-customer-at p b h = ap customerOf (raw-fits recordWidth p b h)
-
-pub who-at : (p : ℕ) (b : List ℕ) → customerOf (part p recordWidth b) .who ≡ part p 25 b
-unfolding customerOf
-who-at p b = Splice.part-part b p recordWidth 0 25 (omega arith) ∙ ap (λ (k : ℕ). part k 25 b) (add-zero p)
-
--- the customers by their places
-pub getD-customers : (n p : ℕ) (b : List ℕ) (i : ℕ) (d : Customer) → i < n → getD (customersAt p n b) i d ≡ customerOf (part (p + recordWidth * i) recordWidth b)
+pub getD-customers : (n p : ℕ) (b : List ℕ) (i : ℕ) (d : Customer) → i < n → getD (customersAt p n b) i d
+    ≡ customerFrom (dec customerShape (p + recordWidth * i) b)
 getD-customers zero p b i d h = absurd (not-suc-le-zero h)
 getD-customers (suc n) p b zero d h =
-    rw (customers-suc p (suc n) n b refl) (ap (λ (k : ℕ). customerOf (part k recordWidth b)) (sym (add-zero p)))
+    rw (customers-suc p (suc n) n b refl) (ap (λ (k : ℕ). customerFrom (dec customerShape k b)) (sym (add-zero p)))
 getD-customers (suc n) p b (suc i) d h =
     let e : p + recordWidth + recordWidth * i ≡ p + recordWidth * suc i = omega arith in
     rw (customers-suc p (suc n) n b refl)
-    (getD-customers n (p + recordWidth) b i d (le-of-suc-le-suc h) ∙ ap (λ (k : ℕ). customerOf (part k recordWidth b)) e)
+    (getD-customers n (p + recordWidth) b i d (le-of-suc-le-suc h) ∙ ap (λ (k : ℕ). customerFrom (dec customerShape k b)) e)
 
 -- ---- what a turn tells of the definitions
 
@@ -96,17 +89,18 @@ both-true true = refl
 both-true false = refl
 
 pub dates-step : (x p n m : ℕ) (b : List ℕ) → n ≡ suc m
-    → okDates (x ∷ datesAt p n b) ≡ both (realDate x) (both (earlier x (num (part p 4 b))) (okDates (num (part p 4 b) ∷ datesAt (p + 4) m b)))
+    → okDates (x ∷ datesAt p n b) ≡
+    both (realDate x) (both (earlier x (num (part p 4 b))) (okDates (num (part p 4 b) ∷ datesAt (p + 4) m b)))
 unfolding okDates all rising
 dates-step x p n m b e = rw (dates-suc p n m b e) (both-turn (realDate x) _ (earlier x (num (part p 4 b))) _)
 
 -- x is real, and y comes next
-pub dates-turn : (x y p n m : ℕ) (b : List ℕ) → n ≡ suc m → p + 4 ≤ length b → realDate x ≡ true → y ≡ numAt 4 p b
+pub dates-turn : (x y p n m : ℕ) (b : List ℕ) → n ≡ suc m → realDate x ≡ true → y ≡ num (part p 4 b)
     → okDates (x ∷ datesAt p n b) ≡ both (earlier x y) (okDates (y ∷ datesAt (p + 4) m b))
-dates-turn x y p n m b e h r f =
+dates-turn x y p n m b e r f =
     dates-step x p n m b e
     ∙ decides _ _ r
-    ∙ ap (λ (z : ℕ). both (earlier x z) (okDates (z ∷ datesAt (p + 4) m b))) (sym (f ∙ Splice.numAt-fits 4 p b h))
+    ∙ ap (λ (z : ℕ). both (earlier x z) (okDates (z ∷ datesAt (p + 4) m b))) (sym f)
 
 pub dates-end : (x p n : ℕ) (b : List ℕ) → n ≡ 0 → okDates (x ∷ datesAt p n b) ≡ realDate x
 unfolding okDates all rising
@@ -116,10 +110,22 @@ pub dates-empty : (p n : ℕ) (b : List ℕ) → n ≡ 0 → true ≡ okDates (d
 unfolding okDates all rising both
 dates-empty p n b e = rw (dates-none p n b e)
 
+-- two tests that decide the same
+pub decided : (v u : Bool) → (v ≡ true → u ≡ true) → (u ≡ true → v ≡ true) → v ≡ u
+decided true u f g = sym (f refl)
+decided false true f g = g refl
+decided false false f g = refl
+
+same-turned : (a b : List ℕ) → same a b ≡ same b a
+same-turned a b = decided (same a b) (same b a) (λ e. eq-same b a (sym (same-eq a b e))) (λ e. eq-same a b (sym (same-eq b a e)))
+
 pub place-step : (i : ℕ) (x : List ℕ) (p n m : ℕ) (b : List ℕ) → n ≡ suc m
-    → placeFrom i x (customersAt p n b) ≡ pick (same (part p 25 b) x) (At i) (placeFrom (i + 1) x (customersAt (p + recordWidth) m b))
+    → placeFrom i x (customersAt p n b) ≡ pick (same x (part p 25 b)) (At i) (placeFrom (i + 1) x (customersAt (p + recordWidth) m b))
 unfolding placeFrom
-place-step i x p n m b e = rw (customers-suc p n m b e) (rw (who-at p b) refl)
+place-step i x p n m b e =
+    ap (placeFrom i x) (customers-suc p n m b e)
+    ∙ ap (λ (t : Bool). pick t (At i) (placeFrom (i + 1) x (customersAt (p + recordWidth) m b)))
+    (ap (λ (y : List ℕ). same y x) (who-at p b) ∙ same-turned (part p 25 b) x)
 
 pub place-end : (i : ℕ) (x : List ℕ) (p n : ℕ) (b : List ℕ) → n ≡ 0 → placeFrom i x (customersAt p n b) ≡ Unknown
 unfolding placeFrom
@@ -127,7 +133,8 @@ place-end i x p n b e = rw (customers-none p n b e)
 
 pub records-step : (c : Customer) (p n m : ℕ) (b : List ℕ) → n ≡ suc m → c ≡ customerAt p b
     → okRecords n p b
-    ≡ both (exactAt p b) (both (soundCustomer c) (both (isUnknown (placeFrom 0 (c .who) (customersAt (p + recordWidth) m b))) (okRecords m (p + recordWidth) b)))
+    ≡ both (exactAt p b) (both (soundCustomer c)
+    (both (isUnknown (placeFrom 0 (c .who) (customersAt (p + recordWidth) m b))) (okRecords m (p + recordWidth) b)))
 unfolding okRecords
 records-step c p n m b e f = rw (e, f)
 

@@ -1,34 +1,41 @@
 -- The table that bytes say, and the test that they are one.
 -- Assumes nothing.
-use Prim.Native.Nat.{ℕ, _+_, _*_, min}
-use mathlib.Core.Bool.{Bool, false}
-use mathlib.Core.List.{List, [], _∷_, _++_, map}
+use Prim.Native.Nat.{ℕ, min}
+use mathlib.Core.Bool.{Bool}
+use mathlib.Core.List.{List, [], map}
 use lib.Dec.{eqb}
-use lib.ListN.{length, take, drop, replicate}
+use lib.ListN.{length, take}
 use Rattle.ground.specs.Choice.{both, pick}
 use Rattle.ground.specs.Lists.{same}
-use Rattle.splices.specs.Bytes.{numAt, chunks, nums}
-use Rattle.record.specs.Layout.{recordWidth, customerOf, settingsAt}
+use Rattle.codec.specs.Layout.{Value, dec}
+use Rattle.customer_bytes.specs.Layout.{customerFrom, settingsFrom, settingsAt}
 use Rattle.table.specs.Table.{Table, soundTable}
-use Rattle.table.specs.Written.{tableSize, settingsStart, holidaysStart, customersStart, encode}
+use Rattle.table.specs.Written.{tableSize, headerShape, tableShape, encode}
+
+-- what stands in a header
+abbrev pub holidaysIn : Value headerShape → ℕ
+holidaysIn (total, (day, (holidays, (start, (customers, offset))))) = holidays
+
+abbrev pub customersIn : Value headerShape → ℕ
+customersIn (total, (day, (holidays, (start, (customers, offset))))) = customers
 
 -- the counts in the header, none more than a table has room for
 abbrev pub holidayCount : List ℕ → ℕ
-holidayCount b = min 200 (numAt 4 8 b)
+holidayCount b = min 200 (holidaysIn (dec headerShape 0 b))
 
 abbrev pub customerCount : List ℕ → ℕ
-customerCount b = min 32 (numAt 4 16 b)
+customerCount b = min 32 (customersIn (dec headerShape 0 b))
+
+-- the table that a table's fields are
+abbrev pub tableFrom : (h n : ℕ) → Value (tableShape h n) → Table
+tableFrom h n ((total, (day, rest)), (settings, (holidays, customers))) =
+    record { day = day; settings = settingsFrom settings; holidays = holidays; customers = map customerFrom customers }
 
 -- the table that bytes of the right length say; of any other length, one without holidays and customers
 unfoldable pub tableOf : List ℕ → Table
 tableOf b =
     pick (eqb (length b) tableSize)
-    (record {
-      day = numAt 4 4 b;
-      settings = settingsAt settingsStart b;
-      holidays = nums 4 (holidayCount b) (drop holidaysStart b);
-      customers = map customerOf (chunks recordWidth (customerCount b) (drop (customersStart (holidayCount b)) b));
-    })
+    (tableFrom (holidayCount b) (customerCount b) (dec (tableShape (holidayCount b) (customerCount b)) 0 b))
     (record { day = 0; settings = settingsAt 0 []; holidays = []; customers = [] })
 
 -- a table is written as these bytes: the table they say is sound, and they are what it is written as

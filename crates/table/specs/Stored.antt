@@ -1,13 +1,12 @@
 -- What the functions that write leave: for any bytes. On a table they write the table changed, by the laws of proofs/.
 -- Assumes nothing.
 use Prim.Native.Nat.{ℕ, _+_, _*_}
-use mathlib.Core.Bool.{Bool}
-use mathlib.Core.List.{List, [], _∷_, _++_}
+use mathlib.Core.List.{List, [], _++_}
 use lib.Dec.{eqb, ltb, leb}
 use lib.ListN.{length, take, replicate}
 use Rattle.ground.specs.Choice.{both, pick}
-use Rattle.splices.specs.Bytes.{bytesOf, bytesOfAll, put}
-use Rattle.record.specs.Layout.{recordWidth, customerBytes}
+use Rattle.splices.specs.Bytes.{bytesOf, put}
+use Rattle.customer_bytes.specs.Layout.{recordWidth, customerBytes}
 use Rattle.customer.specs.declared.Customer.{Customer}
 use Rattle.customer.specs.declared.Settings.{Settings}
 use Rattle.table.specs.Table.{Table}

@@ -1,16 +1,15 @@
 -- A table, and which tables there are (document 01, 'Covered', 'Call refusals'; our reading 72).
 -- Assumes nothing.
-use Prim.Native.Nat.{ℕ, suc, _+_, _<_, _^_}
+use Prim.Native.Nat.{ℕ, _+_, _^_}
 use mathlib.Core.Bool.{Bool, true, false}
 use mathlib.Core.List.{List, [], _∷_, _++_}
 use lib.Dec.{eqb, ltb, leb}
 use lib.ListN.{length, getD, set, replicate}
-use Rattle.ground.specs.Choice.{both, either, fails, pick}
+use Rattle.ground.specs.Choice.{both, pick}
 use Rattle.ground.specs.Lists.{all, same}
 use Rattle.calendar.specs.Dates.{realDate, earlier}
 use Rattle.customer.specs.Customer.{soundCustomer}
 use Rattle.customer.specs.Settings.{soundSettings}
-use Rattle.customer.specs.declared.Changeover.{Changeover}
 use Rattle.customer.specs.declared.Previous.{Previous}
 use Rattle.customer.specs.declared.Previous.the-variants.{Nothing, Held}
 use Rattle.customer.specs.declared.KeyPair.{KeyPair}

@@ -1,12 +1,13 @@
--- The bytes that a table is written as, and what 'no table is written as these bytes' (refusal 2) means.
+-- The bytes that a table is written as, field by field in the order of docs/FORMAT.md, and what 'no table is written as these bytes'
+-- (refusal 2) means.
 -- Assumes nothing.
 use Prim.Native.Nat.{ℕ, _+_, _*_}
 use mathlib.Core.Path.{_≡_}
 use mathlib.Core.Bool.{true}
-use mathlib.Core.List.{List, [], _∷_, _++_}
+use mathlib.Core.List.{List, _++_, map}
 use lib.ListN.{length, drop}
-use Rattle.splices.specs.Bytes.{bytesOfAll, flat}
-use Rattle.record.specs.Layout.{recordWidth, settingsWidth, customerBytes, settingsBytes}
+use Rattle.codec.specs.Layout.{Shape, number, many, within, _⊗_, Value, enc}
+use Rattle.customer_bytes.specs.Layout.{recordWidth, settingsWidth, customerShape, settingsShape, customerTo, settingsTo}
 use Rattle.table.specs.Table.{Table, soundTable}
 
 -- a table is lent as this many bytes
@@ -28,20 +29,40 @@ customersStart holidays = holidaysStart + 4 * holidays
 abbrev pub totalLength : ℕ → ℕ → ℕ
 totalLength holidays customers = customersStart holidays + recordWidth * customers
 
--- total length, day, holiday count and offset, customer count and offset
-unfoldable pub header : Table → List ℕ
-header t =
-    totalLength (length (t .holidays)) (length (t .customers)) ∷
-    t .day ∷
-    length (t .holidays) ∷
-    holidaysStart ∷
-    length (t .customers) ∷
-    customersStart (length (t .holidays)) ∷ []
+-- ---- the layout
 
--- then come, without gaps, the settings, the holidays and the customers
+abbrev pub headerShape : Shape
+headerShape =
+    number 4 ⊗  -- total length
+    number 4 ⊗  -- day
+    number 4 ⊗  -- holiday count
+    number 4 ⊗  -- holiday offset
+    number 4 ⊗  -- customer count
+    number 4  -- customer offset
+
+-- a table with that many holidays and customers
+abbrev pub tableShape : ℕ → ℕ → Shape
+tableShape holidays customers =
+    within headerShape ⊗  -- the header, field by field
+    within settingsShape ⊗  -- the settings, field by field
+    many holidays (number 4) ⊗  -- holidays
+    many customers customerShape  -- customers
+
+-- the header that the day and the two counts give
+abbrev pub headerTo : ℕ → ℕ → ℕ → Value headerShape
+headerTo day holidays customers =
+    (totalLength holidays customers, (day, (holidays, (holidaysStart, (customers, customersStart holidays)))))
+
+-- a table's fields
+abbrev pub tableTo : (t : Table) → Value (tableShape (length (t .holidays)) (length (t .customers)))
+tableTo t = (
+  headerTo (t .day) (length (t .holidays)) (length (t .customers)),
+  (settingsTo (t .settings), (t .holidays, map customerTo (t .customers))),
+)
+
+-- what a table is written as
 unfoldable pub encode : Table → List ℕ
-encode t =
-    bytesOfAll 4 (header t) ++ settingsBytes (t .settings) ++ bytesOfAll 4 (t .holidays) ++ flat customerBytes (t .customers)
+encode t = enc (tableShape (length (t .holidays)) (length (t .customers))) (tableTo t)
 
 -- the table t is written as the bytes b: those past its total length are unread
 pub record WrittenAs (t : Table) (b : List ℕ) : Type 0 where

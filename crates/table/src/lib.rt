@@ -3,18 +3,20 @@ mod parts;
 mod tests;
 
 use crate::parts::SIZE;
-use crate::parts::count_at;
+use crate::parts::count_customers;
+use crate::parts::count_holidays;
 use crate::parts::customers_start;
 use crate::parts::dates_at;
 use crate::parts::find_from;
 use crate::parts::store_dates;
 ghost use mathlib.Core.Path.{_≡_};
-ghost use Prim.Native.Nat.{_+_, _*_, _≤_};
+ghost use Prim.Native.Nat.{_≤_};
 ghost use lib.ListN.{length};
-ghost use Rattle.splices.specs.Bytes.{bytesOfAll, put};
+ghost use Rattle.splices.specs.Bytes.{splice};
+ghost use Rattle.codec.specs.Layout.{enc};
 ghost use Rattle.table.specs.Table.{placeOf, customerIn};
 ghost use Rattle.table.specs.Decode.{tableOf, isTable};
-ghost use Rattle.table.specs.Tests.{headerOf};
+ghost use Rattle.table.specs.Written.{settingsStart, headerShape, headerTo};
 ghost use Rattle.table.specs.Stored.{dayStored, seedStored, customerStored, customerAdded, tableSetUp, holidaysOf};
 
 pub enum Found {
@@ -38,18 +40,18 @@ pub fn is_table(t: &[u8]) -> bool
         return false;
     }
     let d = calendar::Date {
-        yymmdd: splices::read4(t, 4),
+        yymmdd: codec::read4(t, 4),
     };
     if !d.is_real() {
         return false;
     }
-    if !customer::is_sound_settings(record::settings_at(t, 24)) {
+    if !customer::is_sound_settings(customer_bytes::settings_at(t, 24)) {
         return false;
     }
-    if !tests::are_dates(t, 82, count_at(t, 8, 200)) {
+    if !tests::are_dates(t, 82, count_holidays(t)) {
         return false;
     }
-    tests::are_customers(t, customers_start(t), count_at(t, 16, 32))
+    tests::are_customers(t, customers_start(t), count_customers(t))
 }
 
 // The table's day.
@@ -60,7 +62,7 @@ pub fn day(t: &[u8]) -> calendar::Date
         return calendar::Date { yymmdd: 0 };
     }
     calendar::Date {
-        yymmdd: splices::read4(t, 4),
+        yymmdd: codec::read4(t, 4),
     }
 }
 
@@ -69,9 +71,9 @@ pub fn settings(t: &[u8]) -> customer::Settings
     ensures { λ r. ⌜ r ≡ tableOf (now (t .entry)) .settings ⌝ }
 {
     if t.len() != SIZE {
-        return record::settings_at(t, t.len());
+        return customer_bytes::settings_at(t, t.len());
     }
-    record::settings_at(t, 24)
+    customer_bytes::settings_at(t, 24)
 }
 
 // The holidays.
@@ -84,7 +86,7 @@ pub fn holidays_in(t: &[u8]) -> Holidays
             dates: [0u32; 200],
         };
     }
-    let n = count_at(t, 8, 200);
+    let n = count_holidays(t);
     let dates = dates_at(t, 82, n);
     Holidays {
         count: n as u32,
@@ -99,7 +101,7 @@ pub fn customer_count(t: &[u8]) -> u32
     if t.len() != SIZE {
         return 0;
     }
-    count_at(t, 16, 32) as u32
+    count_customers(t) as u32
 }
 
 // The place of the customer with that identity and qualifier.
@@ -109,7 +111,7 @@ pub fn find(t: &[u8], who: [u8; 25]) -> Found
     if t.len() != SIZE {
         return Found::Unknown;
     }
-    find_from(t, customers_start(t), count_at(t, 16, 32), who)
+    find_from(t, customers_start(t), count_customers(t), who)
 }
 
 // The customer at a place; where there is none, one of all-zero bytes.
@@ -117,12 +119,12 @@ pub fn load(t: &[u8], i: usize) -> customer::Customer
     ensures { λ r. ⌜ r ≡ customerIn (tableOf (now (t .entry))) i ⌝ }
 {
     if t.len() != SIZE {
-        return record::load_at(t, t.len());
+        return customer_bytes::load_at(t, t.len());
     }
-    if count_at(t, 16, 32) <= i {
-        return record::load_at(t, t.len());
+    if count_customers(t) <= i {
+        return customer_bytes::load_at(t, t.len());
     }
-    record::load_at(t, customers_start(t) + 1109 * i)
+    customer_bytes::load_at(t, customers_start(t) + 1109 * i)
 }
 
 // Another record for the customer at a place.
@@ -132,11 +134,11 @@ pub fn store(t: &mut [u8], i: usize, c: customer::Customer)
     if t.len() != SIZE {
         return;
     }
-    if count_at(t, 16, 32) <= i {
+    if count_customers(t) <= i {
         return;
     }
     let start = customers_start(t);
-    record::store_at(t, start + 1109 * i, c);
+    customer_bytes::store_at(t, start + 1109 * i, c);
 }
 
 // One customer more, where there is room.
@@ -146,14 +148,14 @@ pub fn add(t: &mut [u8], c: customer::Customer)
     if t.len() != SIZE {
         return;
     }
-    let n = count_at(t, 16, 32);
+    let n = count_customers(t);
     if 32 <= n {
         return;
     }
     let start = customers_start(t);
-    record::store_at(t, start + 1109 * n, c);
-    splices::write4(t, 16, (n + 1) as u32);
-    splices::write4(t, 0, (start + 1109 * (n + 1)) as u32);
+    customer_bytes::store_at(t, start + 1109 * n, c);
+    codec::write4(t, 16, (n + 1) as u32);
+    codec::write4(t, 0, (start + 1109 * (n + 1)) as u32);
 }
 
 // Another day.
@@ -163,7 +165,7 @@ pub fn store_day(t: &mut [u8], d: calendar::Date)
     if t.len() != SIZE {
         return;
     }
-    splices::write4(t, 4, d.yymmdd);
+    codec::write4(t, 4, d.yymmdd);
 }
 
 // Another seed of the key maker.
@@ -173,21 +175,17 @@ pub fn store_seed(t: &mut [u8], v: u64)
     if t.len() != SIZE {
         return;
     }
-    splices::write8(t, 74, v);
+    codec::write8(t, 74, v);
 }
 
 // The header of a table without customers.
 fn store_header(t: &mut [u8], day: u32, holidays: u32)
-    requires { ⌜ (24 ≤ length (now t)) × (holidays ≤ 200) ⌝ }
-    ensures { λ _. ⌜ now (t .exit) ≡ put 0 (bytesOfAll 4 (headerOf day holidays 0)) (now (t .entry)) ⌝ }
+    requires { ⌜ (settingsStart ≤ length (now t)) × (holidays ≤ 200) ⌝ }
+    ensures { λ _. ⌜ now (t .exit) ≡ splice 0 (enc headerShape (headerTo day holidays 0)) (now (t .entry)) ⌝ }
 {
-    let start = 82 + 4 * holidays;
-    splices::write4(t, 0, start);
-    splices::write4(t, 4, day);
-    splices::write4(t, 8, holidays);
-    splices::write4(t, 12, 82);
-    splices::write4(t, 16, 0);
-    splices::write4(t, 20, start);
+    let start = (82 + 4 * holidays) as u64;
+    let row = [start, day as u64, holidays as u64, 82, 0, start];
+    codec::write_row(t, 0, &[4, 4, 4, 4, 4, 4], &row);
 }
 
 // A new table without customers.
@@ -201,6 +199,6 @@ pub fn set_up(t: &mut [u8], day: calendar::Date, s: customer::Settings, holidays
         return;
     }
     store_header(t, day.yymmdd, holidays.len() as u32);
-    record::store_settings(t, 24, s);
+    customer_bytes::store_settings(t, 24, s);
     store_dates(t, 82, holidays);
 }

@@ -1,33 +1,47 @@
 // The parts of a table by their places: counts, dates and customers.
 use crate::Found;
 ghost use mathlib.Core.Path.{_≡_};
-ghost use Prim.Native.Nat.{_+_, _*_, _≤_};
+ghost use Prim.Native.Nat.{_+_, _*_, _≤_, min};
 ghost use lib.ListN.{length};
 ghost use Rattle.ground.specs.Lists.{part, same};
-ghost use Rattle.splices.specs.Bytes.{bytesOfAll, put};
+ghost use Rattle.splices.specs.Bytes.{bytesOfAll, splice};
 ghost use Rattle.table.specs.Table.{placeFrom, isUnknown};
-ghost use Rattle.table.specs.Written.{customersStart};
-ghost use Rattle.table.specs.Decode.{holidayCount};
-ghost use Rattle.table.specs.Tests.{countAt, datesAt, customersAt, filled};
+ghost use Rattle.table.specs.Written.{settingsStart, customersStart};
+ghost use Rattle.table.specs.Decode.{holidayCount, customerCount};
+ghost use Rattle.table.specs.Tests.{datesAt, customersAt, filled};
 
 pub(crate) const SIZE: usize = 49152;
 
-// A count of the header, no more than there is room for.
-pub(crate) fn count_at(t: &[u8], at: usize, most: u32) -> usize
-    ensures { λ r. ⌜ (r ≡ countAt most at (now (t .entry))) × (r ≤ most) ⌝ }
+fn at_most(n: u32, most: u32) -> usize
+    ensures { λ r. ⌜ r ≡ min most n ⌝ }
 {
-    let n = splices::read4(t, at);
     if most < n {
         return most as usize;
     }
     n as usize
 }
 
+// The counts of the header, no more than there is room for.
+pub(crate) fn count_holidays(t: &[u8]) -> usize
+    requires { ⌜ settingsStart ≤ length (now t) ⌝ }
+    ensures { λ r. ⌜ (r ≡ holidayCount (now (t .entry))) × (r ≤ 200) ⌝ }
+{
+    at_most(codec::read4(t, 8), 200)
+}
+
+pub(crate) fn count_customers(t: &[u8]) -> usize
+    requires { ⌜ settingsStart ≤ length (now t) ⌝ }
+    ensures { λ r. ⌜ (r ≡ customerCount (now (t .entry))) × (r ≤ 32) ⌝ }
+{
+    at_most(codec::read4(t, 16), 32)
+}
+
 // Where the customers stand.
 pub(crate) fn customers_start(t: &[u8]) -> usize
+    requires { ⌜ settingsStart ≤ length (now t) ⌝ }
     ensures { λ r. ⌜ (r ≡ customersStart (holidayCount (now (t .entry)))) × (r ≤ 882) ⌝ }
 {
-    82 + 4 * count_at(t, 8, 200)
+    82 + 4 * count_holidays(t)
 }
 
 // The n dates that stand from `at` on, in an array of 200.
@@ -38,7 +52,7 @@ pub(crate) fn dates_at(t: &[u8], at: usize, n: usize) -> [u32; 200]
     let mut out = [0u32; 200];
     let mut i = 0;
     while i < n {
-        out[i] = splices::read4(t, at + 4 * i);
+        out[i] = codec::read4(t, at + 4 * i);
         i += 1;
     }
     out
@@ -47,11 +61,11 @@ pub(crate) fn dates_at(t: &[u8], at: usize, n: usize) -> [u32; 200]
 // The dates are written from `at` on.
 pub(crate) fn store_dates(t: &mut [u8], at: usize, dates: &[u32])
     requires { ⌜ at + 4 * length (now dates) ≤ length (now t) ⌝ }
-    ensures { λ _. ⌜ now (t .exit) ≡ put at (bytesOfAll 4 (now (dates .entry))) (now (t .entry)) ⌝ }
+    ensures { λ _. ⌜ now (t .exit) ≡ splice at (bytesOfAll 4 (now (dates .entry))) (now (t .entry)) ⌝ }
 {
     let mut i = 0;
     while i < dates.len() {
-        splices::write4(t, at + 4 * i, dates[i]);
+        codec::write4(t, at + 4 * i, dates[i]);
         i += 1;
     }
 }
@@ -59,7 +73,7 @@ pub(crate) fn store_dates(t: &mut [u8], at: usize, dates: &[u32])
 // Whether the 25 bytes at `at` are that identity and qualifier.
 pub(crate) fn same_at(t: &[u8], at: usize, who: [u8; 25]) -> bool
     requires { ⌜ at + 25 ≤ length (now t) ⌝ }
-    ensures { λ r. ⌜ r ≡ same (part at 25 (now (t .entry))) who ⌝ }
+    ensures { λ r. ⌜ r ≡ same who (part at 25 (now (t .entry))) ⌝ }
 {
     let mut i = 0;
     while i < 25 {

@@ -4,28 +4,30 @@ use crate::parts::is_unknown;
 ghost use mathlib.Core.Path.{_≡_};
 ghost use Prim.Native.Nat.{_+_, _*_, _≤_};
 ghost use lib.ListN.{length};
+ghost use Rattle.table.specs.Written.{settingsStart};
 ghost use Rattle.table.specs.Tests.{datesAt, okHeader, okDates, okRecords};
 
 // Whether the header's counts are within their limits, and its offsets and total length follow from them.
 pub(crate) fn is_header(t: &[u8]) -> bool
+    requires { ⌜ settingsStart ≤ length (now t) ⌝ }
     ensures { λ r. ⌜ r ≡ okHeader (now (t .entry)) ⌝ }
 {
-    let h = splices::read4(t, 8);
+    let h = codec::read4(t, 8);
     if 200 < h {
         return false;
     }
-    let n = splices::read4(t, 16);
+    let n = codec::read4(t, 16);
     if 32 < n {
         return false;
     }
-    if splices::read4(t, 12) != 82 {
+    if codec::read4(t, 12) != 82 {
         return false;
     }
     let start = 82 + 4 * h;
-    if splices::read4(t, 20) != start {
+    if codec::read4(t, 20) != start {
         return false;
     }
-    splices::read4(t, 0) == start + 1109 * n
+    codec::read4(t, 0) == start + 1109 * n
 }
 
 // Whether the n dates that stand from `at` on are real and rise strictly.
@@ -37,7 +39,7 @@ pub(crate) fn are_dates(t: &[u8], at: usize, n: usize) -> bool
         return true;
     }
     let mut low = calendar::Date {
-        yymmdd: splices::read4(t, at),
+        yymmdd: codec::read4(t, at),
     };
     let mut p = at;
     let mut left = n - 1;
@@ -48,7 +50,7 @@ pub(crate) fn are_dates(t: &[u8], at: usize, n: usize) -> bool
         p += 4;
         left -= 1;
         let d = calendar::Date {
-            yymmdd: splices::read4(t, p),
+            yymmdd: codec::read4(t, p),
         };
         if !low.before(d) {
             return false;
@@ -66,10 +68,10 @@ pub(crate) fn are_customers(t: &[u8], at: usize, n: usize) -> bool
     let mut p = at;
     let mut left = n;
     while left > 0 {
-        if !record::is_exact_at(t, p) {
+        if !customer_bytes::is_exact_at(t, p) {
             return false;
         }
-        let c = record::load_at(t, p);
+        let c = customer_bytes::load_at(t, p);
         if !customer::is_sound(c) {
             return false;
         }

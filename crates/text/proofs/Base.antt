@@ -4,13 +4,15 @@ use mathlib.Core.Path.{_≡_, refl, sym, ap, _∙_}
 use mathlib.Core.Bool.{Bool, true}
 use mathlib.Core.List.{List, [], _∷_, _++_}
 use Prim.Native.Nat.{ℕ, zero, suc, _+_, _-_, _*_, _/_, _%_, _^_, _≤_, _<_}
-use native.Mathlib.Nat.{div-add-mod', div-lt-iff-lt-mul, div-eq-of-lt, mod-eq-of-lt, mod-lt, mul-add-div-right, mul-add-mod-self-right, mul-le-mul-right, mul-assoc, mul-comm, mul-one, one-mul, add-mul, pow-zero, pow-suc, lt-of-lt-of-le, le-of-lt, pow-le-pow-right, add-zero, le-refl}
+use native.Mathlib.Nat.{div-add-mod', div-lt-iff-lt-mul, div-eq-of-lt, mod-eq-of-lt, mod-lt, mul-add-div-right, mul-add-mod-self-right}
+use native.Mathlib.Nat.{mul-le-mul-right, mul-assoc, mul-comm, mul-one, one-mul, add-mul, pow-zero, pow-suc, lt-of-lt-of-le, le-of-lt}
+use native.Mathlib.Nat.{pow-le-pow-right, add-zero, le-refl}
 use native.Mathlib.Numerals.{add-one, sub-one}
 use native.Mathlib.Omega.{arith}
 use lib.ListN.{length, getD, take, drop, set, length-append, length-take}
 use lib.Seq.{take-suc, take-length, length-take-le, set-split, drop-at, append-snoc}
 use Rattle.ground.specs.Lists.{all}
-use Rattle.text.proofs.Lists.{all-at}
+use Rattle.ground.proofs.Lists.{all-at}
 
 -- a base with the value of each character, the character of each value, the number that a list writes and the lowest digits of a number
 pub record Base : Type 0 where

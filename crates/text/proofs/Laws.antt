@@ -6,25 +6,21 @@ use mathlib.Core.List.{List, [], _∷_, _++_}
 use Prim.Native.Nat.{ℕ, suc, _+_, _-_, _*_, _/_, _%_, _^_, _≤_, _<_}
 use mathlib.Core.Logic.{⊎-elim}
 use native.Mathlib.Omega.{arith}
-use borrow.Author.Tests.{eqb-true, ltb-true}
-use lib.Dec.{eqb, ltb}
-use lib.ListN.{length, length-append, length-take, length-drop, length-replicate}
+use borrow.Author.Tests.{eqb-true}
+use lib.Dec.{eqb}
+use lib.ListN.{length, length-append, length-take, length-replicate}
 use Rattle.ground.specs.Choice.{both, either, fails, pick, between}
-use Rattle.ground.specs.Lists.{all, member, overlay}
-use Rattle.ground.proofs.Choices.{left, right, join, either-left, either-decides, either-cases, picks, skips, between-true, between-in}
+use Rattle.ground.specs.Lists.{all, member}
+use Rattle.ground.proofs.Choices.{join, either-left, either-decides, either-cases, picks, skips, between-true, between-in}
+use Rattle.ground.proofs.Lists.{member-lt}
+use Rattle.ground.proofs.Choices.{fails-true}
+use Rattle.ground.proofs.Bools.{agreed, picked, refuted}
 use Rattle.text.specs.Characters.{blank, digit, small, marks, fieldCharacter, internal, hexDigit, padded}
 use Rattle.text.specs.Numbers.{digitValue, hexValue, decimal, decimalFrom, hex, hexFrom, hexCharacter, hexDigits, decimalDigits}
 use Rattle.text.proofs.Base as base
 use Rattle.text.proofs.Lists as lists
 
 -- ---- the field characters
-
-member-lt : (n x : ℕ) (l : List ℕ) → all (λ y. ltb y n) l ≡ true → member x l ≡ true → x < n
-unfolding all member
-member-lt n x [] a m = let z : _≡_ {A = ℕ} 0 1 = cc in omega arith
-member-lt n x (y ∷ l) a m =
-    ⊎-elim (λ e. rw (eqb-true y x e) at (ltb-true y n (left _ _ a))) (λ e. member-lt n x l (right _ _ a) e)
-    (either-cases (eqb y x) (member x l) m)
 
 -- each is a byte
 pub field-lt : (x : ℕ) → fieldCharacter x ≡ true → x < 256
@@ -45,14 +41,8 @@ ranges x = either (between 0x41 0x5A x) (either (between 0x28 0x3E x) (either (e
 pub field-ranges : (x : ℕ) → x < 256 → fieldCharacter x ≡ ranges x
 unfolding fieldCharacter both either fails pick between member
 field-ranges x h =
-    lists.agreed (fieldCharacter x) (ranges x)
+    agreed (fieldCharacter x) (ranges x)
     (lists.each (λ k. pick (fieldCharacter k) (ranges k) (fails (ranges k))) 256 tt x h)
-
-pub internal-lt : (x : ℕ) → x < 256 → internal x < 256
-unfolding internal
-internal-lt x h =
-    lists.picked (λ n. n < 256) (small x) _ _ (λ e. omega arith)
-    (λ e. lists.picked (λ n. n < 256) (fieldCharacter x) _ _ (λ f. h) (λ f. omega arith))
 
 raised : (x : ℕ) → (0x61 ≤ x) × (x ≤ 0x7A) → fieldCharacter (x - 0x20) ≡ true
 unfolding fieldCharacter
@@ -65,13 +55,8 @@ blank-field = refl
 pub internal-field : (x : ℕ) → fieldCharacter (internal x) ≡ true
 unfolding internal
 internal-field x =
-    lists.picked (λ n. fieldCharacter n ≡ true) (small x) _ _ (λ e. raised x (between-true 0x61 0x7A x e))
-    (λ e. lists.picked (λ n. fieldCharacter n ≡ true) (fieldCharacter x) _ _ (λ f. f) (λ f. blank-field))
-
-fails-true : (t : Bool) → fails t ≡ true → t ≡ false
-unfolding fails
-fails-true true e = cc
-fails-true false e = refl
+    picked (λ n. fieldCharacter n ≡ true) (small x) _ _ (λ e. raised x (between-true 0x61 0x7A x e))
+    (λ e. picked (λ n. fieldCharacter n ≡ true) (fieldCharacter x) _ _ (λ f. f) (λ f. blank-field))
 
 -- no small letter is a field character
 small-not : (x : ℕ) → x < 0x7B → both (fieldCharacter x) (small x) ≡ false
@@ -80,7 +65,7 @@ small-not x h = fails-true (both (fieldCharacter x) (small x)) (lists.each (λ k
 
 pub field-internal : (x : ℕ) → fieldCharacter x ≡ true → internal x ≡ x
 unfolding internal
-field-internal x e = skips (small x) _ _ (lists.refuted (small x) clash) ∙ picks (fieldCharacter x) _ _ e
+field-internal x e = skips (small x) _ _ (refuted (small x) clash) ∙ picks (fieldCharacter x) _ _ e
   where
     clash : small x ≡ true → ⊥
     clash s =
@@ -105,13 +90,13 @@ letter-byte c d h =
 
 pub digit-lt : (c : ℕ) → digitValue c < 10
 unfolding digitValue
-digit-lt c = lists.picked (λ n. n < 10) (digit c) _ _ (λ e. omega (arith, digit-byte c e)) (λ e. omega arith)
+digit-lt c = picked (λ n. n < 10) (digit c) _ _ (λ e. omega (arith, digit-byte c e)) (λ e. omega arith)
 
 pub hex-digit-lt : (c : ℕ) → hexValue c < 16
 unfolding hexValue
 hex-digit-lt c =
-    lists.picked (λ n. n < 16) (digit c) _ _ (λ e. omega (arith, digit-byte c e))
-    (λ d. lists.picked (λ n. n < 16) (hexDigit c) _ _ (λ e. omega (arith, letter-byte c d e)) (λ e. omega arith))
+    picked (λ n. n < 16) (digit c) _ _ (λ e. omega (arith, digit-byte c e))
+    (λ d. picked (λ n. n < 16) (hexDigit c) _ _ (λ e. omega (arith, letter-byte c d e)) (λ e. omega arith))
 
 hex-digit-byte : (c : ℕ) → hexDigit c ≡ true → c < 0x47
 unfolding hexDigit
@@ -234,10 +219,6 @@ pub hex-there : (l : List ℕ) → all hexDigit l ≡ true → hexDigits (length
 hex-there = base.there hexes
 
 -- ---- lengths of a copy and of a field
-
-pub overlay-length : (v l : List ℕ) → length (overlay v l) ≡ length l
-unfolding overlay
-overlay-length v l = rw (length-append, length-take, length-drop) (omega arith)
 
 pub padded-length : (n : ℕ) (l : List ℕ) → length (padded n l) ≡ n
 unfolding padded

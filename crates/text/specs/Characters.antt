@@ -1,11 +1,11 @@
 -- Characters: document 01 'Message fields' and 'Digest and checksum', document 001 table 1. A character is a byte.
 -- Assumes nothing.
-use Prim.Native.Nat.{ℕ, _+_, _-_}
+use Prim.Native.Nat.{ℕ, _-_}
 use mathlib.Core.Bool.{Bool}
 use mathlib.Core.List.{List, [], _∷_, _++_}
 use lib.Dec.{eqb}
-use lib.ListN.{length, take, replicate}
-use Rattle.ground.specs.Choice.{both, either, pick, between}
+use lib.ListN.{take, replicate}
+use Rattle.ground.specs.Choice.{either, pick, between}
 use Rattle.ground.specs.Lists.{all, member}
 
 abbrev pub blank : ℕ

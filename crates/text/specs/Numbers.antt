@@ -1,7 +1,6 @@
 -- Numbers written in characters: decimal digits, and hex digits 0-9 A-F, highest first.
 -- Assumes nothing.
 use Prim.Native.Nat.{ℕ, zero, suc, _+_, _-_, _*_, _/_, _%_}
-use mathlib.Core.Bool.{Bool}
 use mathlib.Core.List.{List, [], _∷_, _++_}
 use lib.Dec.{ltb}
 use Rattle.ground.specs.Choice.{pick}

@@ -3,7 +3,7 @@
 use mathlib.Core.Path.{_≡_, refl, ap, ap₂, _∙_}
 use mathlib.Core.Bool.{Bool}
 use mathlib.Core.List.{List}
-use Prim.Native.Nat.{ℕ, _-_}
+use Prim.Native.Nat.{ℕ}
 use Rattle.ground.specs.Choice.{pick}
 use Rattle.keys.specs.Maker.{clockValue}
 use Rattle.customer.specs.declared.Customer.{Customer}
@@ -24,7 +24,8 @@ use Rattle.message.specs.declared.Fault.{Fault}
 use Rattle.message.specs.declared.Fault.the-variants.{Sound, Found as FaultFound}
 use Rattle.message.specs.Order.{firstFailing}
 use Rattle.checks.specs.Checks.{esiChecks, frameChecks, keyOr0}
-use Rattle.verdict.specs.Outcomes.{grantTo, recordAfter, outcomeOf, isSound, storedAt, bytesAfter, bytesBy, esiOutcome, esiLeaves, frameOutcome, frameLeaves}
+use Rattle.verdict.specs.Outcomes.{grantTo, recordAfter, outcomeOf, isSound, storedAt, bytesAfter, bytesBy, esiOutcome, esiLeaves}
+use Rattle.verdict.specs.Outcomes.{frameOutcome, frameLeaves}
 use Rattle.message.specs.declared.Collected.{Collected}
 use Rattle.checks.specs.declared.Frame.{Frame}
 use Rattle.checks.specs.declared.Occasion.{Occasion}
@@ -33,13 +34,14 @@ use Rattle.verdict.specs.declared.Outcome.{Outcome}
 -- ---- acceptance
 
 pub granted-as : (t : Table) (o : Occasion) (m closing : List ℕ) (c : Customer) (s : Settings) (clock g q : ℕ) (r : Granted)
-    → c ≡ named t (senderOf m) → s ≡ t .settings → clock ≡ clockValue (o .clock) (o .made) → g ≡ workingGenerationOf m → q ≡ requestOf closing
-    → r ≡ grantedBy c (s .maker) clock (o .today .yymmdd) g q → r ≡ grantTo t o m closing
+    → c ≡ named t (senderOf m) → s ≡ t .settings → clock ≡ clockValue (o .clock) (o .made) → g ≡ workingGenerationOf m → q
+    ≡ requestOf closing
+    → r ≡ grantedBy c (s .maker) clock (o .today) g q → r ≡ grantTo t o m closing
 unfolding grantTo
 granted-as t o m closing c s clock g q r a b d e f h = h ∙ rw (a, b, d, e, f)
 
 pub stored-after : (b : List ℕ) (o : Occasion) (m closing : List ℕ) (once : ℕ) (g : Granted) (c : Customer) (f : Found) (b₁ b₂ : List ℕ)
-    → g ≡ grantTo (tableOf b) o m closing → c ≡ withStamp (tableOf b .holidays) (o .today .yymmdd) (g .customer) (stampOf m) once
+    → g ≡ grantTo (tableOf b) o m closing → c ≡ withStamp (tableOf b .holidays) (o .today) (g .customer) (stampOf m) once
     → f ≡ placeOf (tableOf b) (senderOf m) → b₁ ≡ storedAt b f c → b₂ ≡ seedStored b₁ (g .seed)
     → b₂ ≡ bytesAfter b o m closing once
 unfolding bytesAfter recordAfter
@@ -71,7 +73,7 @@ concluded f made b x y g h s r e a p = (
 )
 
 pub esi-judged : (b : List ℕ) (o : Occasion) (m : Collected) (f : Fault) (r : Outcome) (x : List ℕ)
-    → f ≡ firstFailing (esiChecks (tableOf b) (o .today .yymmdd) m)
+    → f ≡ firstFailing (esiChecks (tableOf b) (o .today) m)
     → (r ≡ outcomeOf f (grantTo (tableOf b) o (m .text) (m .text)) (o .made)) × (x ≡ bytesBy f b (bytesAfter b o (m .text) (m .text) 0))
     → (r ≡ esiOutcome (tableOf b) o m) × (x ≡ esiLeaves b o m)
 unfolding esiOutcome esiLeaves
@@ -81,8 +83,9 @@ esi-judged b o m f r x e h = (
 )
 
 pub frame-judged : (b : List ℕ) (o : Occasion) (g : Frame) (k : ℕ) (f : Fault) (r : Outcome) (x : List ℕ) → k ≡ keyOr0 (g .once)
-    → f ≡ firstFailing (frameChecks (tableOf b) (o .today .yymmdd) (o .kind) g)
-    → (r ≡ outcomeOf f (grantTo (tableOf b) o (g .suo .text) (g .var .text)) (o .made)) × (x ≡ bytesBy f b (bytesAfter b o (g .suo .text) (g .var .text) k))
+    → f ≡ firstFailing (frameChecks (tableOf b) (o .today) (o .kind) g)
+    → (r ≡ outcomeOf f (grantTo (tableOf b) o (g .suo .text) (g .var .text)) (o .made))
+    × (x ≡ bytesBy f b (bytesAfter b o (g .suo .text) (g .var .text) k))
     → (r ≡ frameOutcome (tableOf b) o g) × (x ≡ frameLeaves b o g)
 unfolding frameOutcome frameLeaves
 frame-judged b o g k f r x q e h = (

@@ -3,13 +3,14 @@
 use mathlib.Core.Path.{_≡_, refl, ap, _∙_}
 use mathlib.Core.Bool.{Bool, true, false}
 use mathlib.Core.List.{List, [], _∷_, _++_}
-use Prim.Native.Nat.{ℕ, zero, suc, _+_, _^_, _<_}
+use Prim.Native.Nat.{ℕ, zero, suc, _^_, _<_}
 use native.Mathlib.Omega.{arith}
 use borrow.Author.Tests.{lt-ltb, eq-eqb}
 use lib.ListN.{length, take, replicate}
 use Rattle.ground.specs.Choice.{pick}
 use Rattle.ground.specs.Lists.{all}
 use Rattle.ground.proofs.Choices.{left, right, join}
+use Rattle.calendar.specs.declared.Date.{Date}
 use Rattle.keys.specs.declared.KeyMaker.{KeyMaker}
 use Rattle.keys.proofs.Laws.{made-lt, seed-lt}
 use Rattle.customer.specs.declared.Customer.{Customer}
@@ -37,7 +38,7 @@ keys-kept : (c : Customer) (working : KeyPair) → Kept c (withKeys c (c .transp
 unfolding withKeys
 keys-kept c working = record { who = refl; types = refl; agreed = refl; leave = refl; length = refl; transport = refl }
 
-pub grant-kept : (c : Customer) (maker : KeyMaker) (clock today generation request : ℕ)
+pub grant-kept : (c : Customer) (maker : KeyMaker) (clock : ℕ) (today : Date) (generation request : ℕ)
     → Kept c (grantedBy c maker clock today generation request .customer)
 unfolding withWorking withoutPrevious
 grant-kept c maker clock today generation request =
@@ -46,7 +47,7 @@ grant-kept c maker clock today generation request =
     (keys-kept c _)
     (λ key e. keys-kept c _)
 
-pub stamp-keeps : (hs : List ℕ) (today : ℕ) (a c : Customer) (stamp once : ℕ) → Kept a c → Kept a (withStamp hs today c stamp once)
+pub stamp-keeps : (hs : List ℕ) (today : Date) (a c : Customer) (stamp once : ℕ) → Kept a c → Kept a (withStamp hs today c stamp once)
 unfolding withStamp
 stamp-keeps hs today a c stamp once k =
     record {
@@ -78,7 +79,7 @@ working-fits : (c : Customer) → customerFits c ≡ true → pairFits (c .worki
 unfolding customerFits
 working-fits c e = right _ _ (right _ _ (right _ _ (right _ _ (right _ _ e))))
 
-pub grant-fits : (c : Customer) (maker : KeyMaker) (clock today generation request : ℕ) → customerFits c ≡ true
+pub grant-fits : (c : Customer) (maker : KeyMaker) (clock : ℕ) (today : Date) (generation request : ℕ) → customerFits c ≡ true
     → customerFits (grantedBy c maker clock today generation request .customer) ≡ true
 unfolding withWorking withoutPrevious changed previousFits
 grant-fits c maker clock today generation request f =
@@ -88,7 +89,7 @@ grant-fits c maker clock today generation request f =
     (with-keys-fits c _ f (join _ _ k refl))
     (λ key e. with-keys-fits c _ f (join _ _ (ap word e ∙ word-true _ (made-lt (record { key = maker .key; seed = maker .seed }) clock)) k))
 
-pub grant-seed-lt : (c : Customer) (maker : KeyMaker) (clock today generation request : ℕ) → maker .seed < 2 ^ 64
+pub grant-seed-lt : (c : Customer) (maker : KeyMaker) (clock : ℕ) (today : Date) (generation request : ℕ) → maker .seed < 2 ^ 64
     → grantedBy c maker clock today generation request .seed < 2 ^ 64
 grant-seed-lt c maker clock today generation request h =
     by-answer c maker clock today generation request (λ (g : Granted). g .seed < 2 ^ 64)
@@ -118,13 +119,13 @@ module _ (f : ℕ → Bool) where
   all-pick true x l p q = q
   all-pick false x l p q = join _ _ p q
 
-  all-live : (hs : List ℕ) (today : ℕ) (ss xs : List ℕ) → all f xs ≡ true → all f (liveOf hs today ss xs) ≡ true
+  all-live : (hs : List ℕ) (today : Date) (ss xs : List ℕ) → all f xs ≡ true → all f (liveOf hs today ss xs) ≡ true
   unfolding all liveOf
   all-live hs today [] xs p = refl
   all-live hs today (s ∷ ss) [] p = refl
   all-live hs today (s ∷ ss) (x ∷ xs) p = all-pick _ x _ (left _ _ p) (all-live hs today ss xs (right _ _ p))
 
-once-fits : (hs : List ℕ) (today : ℕ) (c : Customer) (once : ℕ) → all word (c .once) ≡ true → once < 2 ^ 64
+once-fits : (hs : List ℕ) (today : Date) (c : Customer) (once : ℕ) → all word (c .once) ≡ true → once < 2 ^ 64
     → all word (inPlaces (liveOnce hs today c ++ (once ∷ []))) ≡ true
 unfolding all
 once-fits hs today c once p h =
@@ -136,7 +137,7 @@ once-fits hs today c once p h =
     (join (word once) true (word-true once h) refl))
     (all-zeros word 64 (word-true 0 (omega arith))))
 
-pub stamp-fits : (hs : List ℕ) (today : ℕ) (c : Customer) (stamp once : ℕ) → customerFits c ≡ true → once < 2 ^ 64
+pub stamp-fits : (hs : List ℕ) (today : Date) (c : Customer) (stamp once : ℕ) → customerFits c ≡ true → once < 2 ^ 64
     → customerFits (withStamp hs today c stamp once) ≡ true
 unfolding customerFits withStamp
 stamp-fits hs today c stamp once e h =

@@ -3,12 +3,13 @@
 use mathlib.Core.Path.{_≡_, refl, sym, ap, ap₂, _∙_, subst}
 use mathlib.Core.Bool.{true, false}
 use mathlib.Core.List.{List, _++_}
-use Prim.Native.Nat.{ℕ, _+_, _≤_, _<_}
+use Prim.Native.Nat.{ℕ, _≤_, _<_}
 use native.Mathlib.Omega.{arith}
 use borrow.Author.Tests.{leb-false, lt-ltb}
 use lib.ListN.{length, take, length-set}
 use Rattle.ground.specs.Lists.{member}
 use Rattle.ground.proofs.Choices.{join}
+use Rattle.calendar.specs.declared.Date.{Date}
 use Rattle.customer.specs.Customer.{realStamp}
 use Rattle.customer.specs.declared.Customer.{Customer}
 use Rattle.acceptance.specs.Stamps.{holdsStamp, stampOld, heldStamps, liveOf, liveStamps, withStamp}
@@ -30,7 +31,8 @@ use Rattle.message.specs.declared.Kind.the-variants.{Esi, Suo, Var}
 use Rattle.message.specs.declared.Fault.{Fault}
 use Rattle.message.specs.declared.Fault.the-variants.{Sound, Found as FaultFound}
 use Rattle.message.proofs.Laws.{sound-stamp}
-use Rattle.checks.specs.Checks.{partyChecks, stampChecks, roomChecks, esiKeyChecks, typeChecks, pairChecks, keyChecks, esiChecks, frameChecks, keyOr0}
+use Rattle.checks.specs.Checks.{partyChecks, stampChecks, roomChecks, esiKeyChecks, typeChecks, pairChecks, keyChecks, esiChecks}
+use Rattle.checks.specs.Checks.{frameChecks, keyOr0}
 use Rattle.verdict.specs.Outcomes.{grantTo, recordAfter, tableAfter, tableBy, bytesBy, esiTable, frameTable, esiLeaves, frameLeaves}
 use Rattle.message.specs.declared.Collected.{Collected}
 use Rattle.checks.specs.declared.Frame.{Frame}
@@ -50,22 +52,22 @@ unfolding bytesBy
 bytes-found f c n a before after e = ap (λ (x : Fault). bytesBy x before after) e
 
 pub esi-e-changes-nothing : (t : Table) (o : Occasion) (m : Collected) (c n : ℕ) (a : About)
-    → firstFailing (esiChecks t (o .today .yymmdd) m) ≡ FaultFound c n a → esiTable t o m ≡ t
+    → firstFailing (esiChecks t (o .today) m) ≡ FaultFound c n a → esiTable t o m ≡ t
 unfolding esiTable
 esi-e-changes-nothing t o m c n a e = by-found _ c n a _ _ e
 
 pub frame-e-changes-nothing : (t : Table) (o : Occasion) (f : Frame) (c n : ℕ) (a : About)
-    → firstFailing (frameChecks t (o .today .yymmdd) (o .kind) f) ≡ FaultFound c n a → frameTable t o f ≡ t
+    → firstFailing (frameChecks t (o .today) (o .kind) f) ≡ FaultFound c n a → frameTable t o f ≡ t
 unfolding frameTable
 frame-e-changes-nothing t o f c n a e = by-found _ c n a _ _ e
 
 pub esi-e-leaves : (b : List ℕ) (o : Occasion) (m : Collected) (c n : ℕ) (a : About)
-    → firstFailing (esiChecks (tableOf b) (o .today .yymmdd) m) ≡ FaultFound c n a → esiLeaves b o m ≡ b
+    → firstFailing (esiChecks (tableOf b) (o .today) m) ≡ FaultFound c n a → esiLeaves b o m ≡ b
 unfolding esiLeaves
 esi-e-leaves b o m c n a e = bytes-found _ c n a _ _ e
 
 pub frame-e-leaves : (b : List ℕ) (o : Occasion) (f : Frame) (c n : ℕ) (a : About)
-    → firstFailing (frameChecks (tableOf b) (o .today .yymmdd) (o .kind) f) ≡ FaultFound c n a → frameLeaves b o f ≡ b
+    → firstFailing (frameChecks (tableOf b) (o .today) (o .kind) f) ≡ FaultFound c n a → frameLeaves b o f ≡ b
 unfolding frameLeaves
 frame-e-leaves b o f c n a e = bytes-found _ c n a _ _ e
 
@@ -85,7 +87,8 @@ unfolding replacedAt
 replaced-others t (At i) c j n = others-stay t i j c (λ q. n (ap At q))
 replaced-others t Unknown c j n = refl
 
-named-others : (t : Table) (who : List ℕ) (c : Customer) (j : ℕ) → (placeOf t who ≡ At j → ⊥) → customerIn (withNamed t who c) j ≡ customerIn t j
+named-others : (t : Table) (who : List ℕ) (c : Customer) (j : ℕ) → (placeOf t who ≡ At j → ⊥) → customerIn (withNamed t who c) j
+    ≡ customerIn t j
 unfolding withNamed
 named-others t who c j n = replaced-others t (placeOf t who) c j n
 
@@ -104,7 +107,7 @@ module _ (t : Table) (who : List ℕ) (i : ℕ) (e : placeOf t who ≡ At i) (c 
 -- ---- what an accepted message is known by
 
 -- the sender is in the table, there is room for a stamp, and the stamp is real
-pub record Accepted (t : Table) (today : ℕ) (m : List ℕ) : Type 0 where
+pub record Accepted (t : Table) (today : Date) (m : List ℕ) : Type 0 where
   pub place : ℕ
   pub known : placeOf t (senderOf m) ≡ At place
   pub room : length (liveStamps (t .holidays) today (named t (senderOf m))) < 64
@@ -114,7 +117,7 @@ party-known : (t : Table) (m : List ℕ) → NoneFails (partyChecks t m) → (i 
 unfolding partyChecks
 party-known t m n = known-at (placeOf t (senderOf m)) (n .1 .1 .0)
 
-room-left : (t : Table) (c : Customer) (today : ℕ) → NoneFails (roomChecks t c today) → length (liveStamps (t .holidays) today c) < 64
+room-left : (t : Table) (c : Customer) (today : Date) → NoneFails (roomChecks t c today) → length (liveStamps (t .holidays) today c) < 64
 unfolding roomChecks
 room-left t c today n = leb-false 64 _ (n .0)
 
@@ -125,13 +128,14 @@ form-real k about m n l =
     let s = sound-stamp k about m (none-fails (formChecks (formOf k) about m) n) l in
     join _ _ (lt-ltb (stampOf (m .text)) 1000000000000000 (s .0)) (join _ _ (s .1) (s .2))
 
-given : (k : Kind) (t : Table) (today : ℕ) (m : Collected) → NoneFails (formChecks (formOf k) Answered m) → NoneFails (partyChecks t (m .text))
+given : (k : Kind) (t : Table) (today : Date) (m : Collected) → NoneFails (formChecks (formOf k) Answered m)
+    → NoneFails (partyChecks t (m .text))
     → NoneFails (roomChecks t (named t (senderOf (m .text))) today) → Accepted t today (m .text)
 given k t today m f p r =
     let i = party-known t (m .text) p in
     record { place = i .0; known = i .1; room = room-left t _ today r; real = form-real k Answered m f }
 
-pub esi-accepted : (t : Table) (today : ℕ) (m : Collected) → firstFailing (esiChecks t today m) ≡ Sound → Accepted t today (m .text)
+pub esi-accepted : (t : Table) (today : Date) (m : Collected) → firstFailing (esiChecks t today m) ≡ Sound → Accepted t today (m .text)
 esi-accepted t today m e =
     let c = named t (senderOf (m .text)) in
     let l₃ = esiKeyChecks c (m .text) ++ roomChecks t c today in
@@ -145,7 +149,7 @@ esi-accepted t today m e =
     (none-right (esiKeyChecks c (m .text)) (roomChecks t c today) k)
 
 -- and of a frame also that its one-time key has passed
-pub frame-passed : (t : Table) (today kind : ℕ) (f : Frame) → firstFailing (frameChecks t today kind f) ≡ Sound
+pub frame-passed : (t : Table) (today : Date) (kind : ℕ) (f : Frame) → firstFailing (frameChecks t today kind f) ≡ Sound
     → Accepted t today (f .suo .text) × NoneFails (keyChecks t (named t (senderOf (f .suo .text))) today f)
 frame-passed t today kind f e =
     let c = named t (senderOf (f .suo .text)) in
@@ -160,12 +164,14 @@ frame-passed t today kind f e =
     let b = none-right (typeChecks c kind) l₄ (none-right (partyChecks t (f .suo .text)) l₃ p) in
     let s = none-right (pairChecks (f .suo .text) (f .var .text)) l₅ b in
     let k = none-right (stampChecks t c today (f .suo .text)) l₆ s in (
-      given Suo t today (f .suo) (none-left (formChecks (formOf Suo) Answered (f .suo)) l₁ n) (none-left (partyChecks t (f .suo .text)) l₃ p)
+      given Suo t today (f .suo) (none-left (formChecks (formOf Suo) Answered (f .suo)) l₁ n)
+          (none-left (partyChecks t (f .suo .text)) l₃ p)
           (none-right (keyChecks t c today f) (roomChecks t c today) k),
       none-left (keyChecks t c today f) (roomChecks t c today) k,
     )
 
-pub frame-accepted : (t : Table) (today kind : ℕ) (f : Frame) → firstFailing (frameChecks t today kind f) ≡ Sound → Accepted t today (f .suo .text)
+pub frame-accepted : (t : Table) (today : Date) (kind : ℕ) (f : Frame) → firstFailing (frameChecks t today kind f) ≡ Sound
+    → Accepted t today (f .suo .text)
 frame-accepted t today kind f e = frame-passed t today kind f e .0
 
 -- ---- what acceptance leaves
@@ -188,10 +194,10 @@ module _ (t : Table) (o : Occasion) (m closing : List ℕ) (once : ℕ) where
   held-same : heldStamps (grantTo t o m closing .customer) ≡ heldStamps (named t (senderOf m))
   held-same = ap₂ (λ (n : ℕ) (l : List ℕ). take n l) (granted-stamps .0) (granted-stamps .1)
 
-  module _ (a : Accepted t (o .today .yymmdd) m) where
-    pub room-after : length (liveStamps (t .holidays) (o .today .yymmdd) (grantTo t o m closing .customer)) < 64
+  module _ (a : Accepted t (o .today) m) where
+    pub room-after : length (liveStamps (t .holidays) (o .today) (grantTo t o m closing .customer)) < 64
     room-after =
-        omega (arith, ap (λ (l : List ℕ). length (liveOf (t .holidays) (o .today .yymmdd) l l)) held-same, a .room)
+        omega (arith, ap (λ (l : List ℕ). length (liveOf (t .holidays) (o .today) l l)) held-same, a .room)
 
     pub after-is : named (tableAfter t o m closing once) (senderOf m) ≡ recordAfter t o m closing once
     unfolding tableAfter
@@ -202,14 +208,14 @@ module _ (t : Table) (o : Occasion) (m closing : List ℕ) (once : ℕ) where
     unfolding holdsStamp recordAfter
     after-holds =
         ap (λ (c : Customer). holdsStamp c (stampOf m)) after-is
-        ∙ stamp-new (t .holidays) (o .today .yymmdd) (grantTo t o m closing .customer) (stampOf m) once room-after
+        ∙ stamp-new (t .holidays) (o .today) (grantTo t o m closing .customer) (stampOf m) once room-after
 
-    after-kept : (s : ℕ) → holdsStamp (named t (senderOf m)) s ≡ true → stampOld (t .holidays) (o .today .yymmdd) s ≡ false
+    after-kept : (s : ℕ) → holdsStamp (named t (senderOf m)) s ≡ true → stampOld (t .holidays) (o .today) s ≡ false
         → holdsStamp (named (tableAfter t o m closing once) (senderOf m)) s ≡ true
     unfolding holdsStamp recordAfter
     after-kept s h q =
         ap (λ (c : Customer). holdsStamp c s) after-is
-        ∙ stamp-kept (t .holidays) (o .today .yymmdd) (grantTo t o m closing .customer) (stampOf m) once s
+        ∙ stamp-kept (t .holidays) (o .today) (grantTo t o m closing .customer) (stampOf m) once s
         (ap (member s) held-same ∙ h) q room-after
 
     after-few : named (tableAfter t o m closing once) (senderOf m) .count ≤ 64
@@ -220,7 +226,7 @@ module _ (t : Table) (o : Occasion) (m closing : List ℕ) (once : ℕ) where
     unfolding recordAfter grantTo
     after-keeps =
         subst (λ (c : Customer). Kept (named t (senderOf m)) c) (sym after-is)
-        (stamp-keeps (t .holidays) (o .today .yymmdd) _ _ (stampOf m) once (grant-kept _ _ _ _ _ _))
+        (stamp-keeps (t .holidays) (o .today) _ _ (stampOf m) once (grant-kept _ _ _ _ _ _))
 
   after-others : (j : ℕ) → (placeOf t (senderOf m) ≡ At j → ⊥) → customerIn (tableAfter t o m closing once) j ≡ customerIn t j
   unfolding tableAfter
@@ -228,16 +234,17 @@ module _ (t : Table) (o : Occasion) (m closing : List ℕ) (once : ℕ) where
 
 -- the table u after a message was accepted on the table t: its stamp is held, none that is not too old is lost, there are never
 -- more than 64, and the sender's record keeps all but its working keys
-pub record Marked (t u : Table) (today : ℕ) (m : List ℕ) : Type 0 where
+pub record Marked (t u : Table) (today : Date) (m : List ℕ) : Type 0 where
   pub new : holdsStamp (named u (senderOf m)) (stampOf m) ≡ true
-  pub kept : (s : ℕ) → holdsStamp (named t (senderOf m)) s ≡ true → stampOld (t .holidays) today s ≡ false → holdsStamp (named u (senderOf m)) s ≡ true
+  pub kept : (s : ℕ) → holdsStamp (named t (senderOf m)) s ≡ true → stampOld (t .holidays) today s ≡ false
+      → holdsStamp (named u (senderOf m)) s ≡ true
   pub few : named u (senderOf m) .count ≤ 64
   pub keeps : Kept (named t (senderOf m)) (named u (senderOf m))
 
-after-marked : (t u : Table) (o : Occasion) (m closing : List ℕ) (once : ℕ) → Accepted t (o .today .yymmdd) m
-    → u ≡ tableAfter t o m closing once → Marked t u (o .today .yymmdd) m
+after-marked : (t u : Table) (o : Occasion) (m closing : List ℕ) (once : ℕ) → Accepted t (o .today) m
+    → u ≡ tableAfter t o m closing once → Marked t u (o .today) m
 after-marked t u o m closing once a e =
-    subst (λ (x : Table). Marked t x (o .today .yymmdd) m) (sym e)
+    subst (λ (x : Table). Marked t x (o .today) m) (sym e)
     (record {
       new = after-holds t o m closing once a;
       kept = after-kept t o m closing once a;
@@ -249,35 +256,35 @@ by-sound : (f : Fault) (before after : Table) → f ≡ Sound → tableBy f befo
 unfolding tableBy
 by-sound f before after e = ap (λ (x : Fault). tableBy x before after) e
 
-pub esi-is : (t : Table) (o : Occasion) (m : Collected) → firstFailing (esiChecks t (o .today .yymmdd) m) ≡ Sound
+pub esi-is : (t : Table) (o : Occasion) (m : Collected) → firstFailing (esiChecks t (o .today) m) ≡ Sound
     → esiTable t o m ≡ tableAfter t o (m .text) (m .text) 0
 unfolding esiTable
 esi-is t o m e = by-sound _ _ _ e
 
-pub frame-is : (t : Table) (o : Occasion) (f : Frame) → firstFailing (frameChecks t (o .today .yymmdd) (o .kind) f) ≡ Sound
+pub frame-is : (t : Table) (o : Occasion) (f : Frame) → firstFailing (frameChecks t (o .today) (o .kind) f) ≡ Sound
     → frameTable t o f ≡ tableAfter t o (f .suo .text) (f .var .text) (keyOr0 (f .once))
 unfolding frameTable
 frame-is t o f e = by-sound _ _ _ e
 
 -- after an accepted ESI the sender's record is marked by its stamp
-pub esi-marked : (t : Table) (o : Occasion) (m : Collected) → firstFailing (esiChecks t (o .today .yymmdd) m) ≡ Sound
-    → Marked t (esiTable t o m) (o .today .yymmdd) (m .text)
+pub esi-marked : (t : Table) (o : Occasion) (m : Collected) → firstFailing (esiChecks t (o .today) m) ≡ Sound
+    → Marked t (esiTable t o m) (o .today) (m .text)
 esi-marked t o m e =
-    after-marked t (esiTable t o m) o (m .text) (m .text) 0 (esi-accepted t (o .today .yymmdd) m e) (esi-is t o m e)
+    after-marked t (esiTable t o m) o (m .text) (m .text) 0 (esi-accepted t (o .today) m e) (esi-is t o m e)
 
 -- and after an accepted frame
-pub frame-marked : (t : Table) (o : Occasion) (f : Frame) → firstFailing (frameChecks t (o .today .yymmdd) (o .kind) f) ≡ Sound
-    → Marked t (frameTable t o f) (o .today .yymmdd) (f .suo .text)
+pub frame-marked : (t : Table) (o : Occasion) (f : Frame) → firstFailing (frameChecks t (o .today) (o .kind) f) ≡ Sound
+    → Marked t (frameTable t o f) (o .today) (f .suo .text)
 frame-marked t o f e =
     after-marked t (frameTable t o f) o (f .suo .text) (f .var .text) (keyOr0 (f .once))
-    (frame-accepted t (o .today .yymmdd) (o .kind) f e) (frame-is t o f e)
+    (frame-accepted t (o .today) (o .kind) f e) (frame-is t o f e)
 
 -- after acceptance the record holds the new stamp
-pub esi-stamp : (t : Table) (o : Occasion) (m : Collected) → firstFailing (esiChecks t (o .today .yymmdd) m) ≡ Sound
+pub esi-stamp : (t : Table) (o : Occasion) (m : Collected) → firstFailing (esiChecks t (o .today) m) ≡ Sound
     → holdsStamp (named (esiTable t o m) (senderOf (m .text))) (stampOf (m .text)) ≡ true
 esi-stamp t o m e = esi-marked t o m e .new
 
-pub frame-stamp : (t : Table) (o : Occasion) (f : Frame) → firstFailing (frameChecks t (o .today .yymmdd) (o .kind) f) ≡ Sound
+pub frame-stamp : (t : Table) (o : Occasion) (f : Frame) → firstFailing (frameChecks t (o .today) (o .kind) f) ≡ Sound
     → holdsStamp (named (frameTable t o f) (senderOf (f .suo .text))) (stampOf (f .suo .text)) ≡ true
 frame-stamp t o f e = frame-marked t o f e .new
 

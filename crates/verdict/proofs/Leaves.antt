@@ -12,6 +12,7 @@ use lib.Seq.{drop-at}
 use Rattle.ground.specs.Choice.{either, fails}
 use Rattle.ground.proofs.Choices.{left, right, either-right}
 use Rattle.calendar.specs.Dates.{realDate}
+use Rattle.calendar.specs.declared.Date.{Date}
 use Rattle.keys.specs.Parity.{oddParity}
 use Rattle.customer.specs.Customer.{soundOnce, soundCustomer}
 use Rattle.customer.specs.declared.Customer.{Customer}
@@ -34,7 +35,8 @@ use Rattle.message.specs.declared.Fault.the-variants.{Sound, Found as FaultFoun
 use Rattle.message.specs.Order.{firstFailing}
 use Rattle.message.proofs.Order.{NoneFails}
 use Rattle.checks.specs.Checks.{keyOr0, keyChecks, frameChecks}
-use Rattle.verdict.specs.Outcomes.{grantTo, recordAfter, tableAfter, tableBy, storedAt, bytesAfter, bytesBy, esiTable, frameTable, esiLeaves, frameLeaves}
+use Rattle.verdict.specs.Outcomes.{grantTo, recordAfter, tableAfter, tableBy, storedAt, bytesAfter, bytesBy, esiTable, frameTable}
+use Rattle.verdict.specs.Outcomes.{esiLeaves, frameLeaves}
 use Rattle.message.specs.declared.Collected.{Collected}
 use Rattle.checks.specs.declared.Frame.{Frame}
 use Rattle.checks.specs.declared.Occasion.{Occasion}
@@ -56,7 +58,8 @@ written-again b u w e =
     ap (λ (l : List ℕ). encode w ++ l)
     (drop-at (encode u) (drop (length (encode u)) b) (length (encode w)) (sym e) ∙ ap (λ (n : ℕ). drop n b) (sym e))
 
-seed-length : (u : Table) (v : ℕ) → soundTable u ≡ true → soundTable (withSeed u v) ≡ true → length (encode (withSeed u v)) ≡ length (encode u)
+seed-length : (u : Table) (v : ℕ) → soundTable u ≡ true → soundTable (withSeed u v) ≡ true → length (encode (withSeed u v))
+    ≡ length (encode u)
 unfolding withSeed
 seed-length u v e f = encode-length (withSeed u v) (sound-fit (withSeed u v) f) ∙ sym (encode-length u (sound-fit u e))
 
@@ -86,7 +89,7 @@ seed-fits t e = ltb-true _ _ (right _ _ (right _ _ (right _ _ (parts t e .fit)))
 
 module _ (b : List ℕ) (e : isTable b ≡ true) (o : Occasion) (m closing : List ℕ) (once : ℕ) (l : length m ≡ 161)
     (d : realDate (o .today .yymmdd) ≡ true) (w : once < 2 ^ 64) (k : soundOnce once ≡ true)
-    (a : Accepted (tableOf b) (o .today .yymmdd) m) where
+    (a : Accepted (tableOf b) (o .today) m) where
   sound-before : soundTable (tableOf b) ≡ true
   sound-before = is-written b e .sound
 
@@ -128,7 +131,8 @@ module _ (b : List ℕ) (e : isTable b ≡ true) (o : Occasion) (m closing : Lis
   stored-sound : soundTable stored ≡ true
   stored-sound =
       sound-with (tableOf b) (a .place) (recordAfter (tableOf b) o m closing once) sound-before record-fits record-sound
-      (who-is (tableOf b) (senderOf m) (a .place) (a .known) (recordAfter (tableOf b) o m closing once) (record-who (tableOf b) o m closing once) 0)
+      (who-is (tableOf b) (senderOf m) (a .place) (a .known) (recordAfter (tableOf b) o m closing once)
+      (record-who (tableOf b) o m closing once) 0)
 
   after-is : tableAfter (tableOf b) o m closing once ≡ withSeed stored (grantTo (tableOf b) o m closing .seed)
   unfolding tableAfter
@@ -177,11 +181,13 @@ unfolding soundOnce fails
 once-odd true k p q = either-right _ _ p
 once-odd false k p q = absurd (let z : _≡_ {A = ℕ} 0 1 = cc in omega arith)
 
-keys-odd : (t : Table) (c : Customer) (today : ℕ) (f : Frame) → NoneFails (keyChecks t c today f) → soundOnce (keyOr0 (f .once)) ≡ true
+keys-odd : (t : Table) (c : Customer) (today : Date) (f : Frame) → NoneFails (keyChecks t c today f) → soundOnce (keyOr0 (f .once)) ≡ true
 unfolding keyChecks
 keys-odd t c today f n = once-odd _ (keyOr0 (f .once)) refl (n .1 .1 .1 .0)
 
-frame-odd : (t : Table) (today kind : ℕ) (f : Frame) → firstFailing (frameChecks t today kind f) ≡ Sound → soundOnce (keyOr0 (f .once)) ≡ true
+frame-odd : (t : Table) (today : Date) (kind : ℕ) (f : Frame) → firstFailing (frameChecks t today kind f) ≡ Sound
+    → soundOnce (keyOr0 (f .once))
+    ≡ true
 frame-odd t today kind f e = keys-odd t (named t (senderOf (f .suo .text))) today f (frame-passed t today kind f e .1)
 
 -- after a verdict on an ESI the bytes are what the table afterwards is written as, and it is sound
@@ -192,7 +198,7 @@ unfolding esiLeaves esiTable
 esi-leaves-table b o m e d l =
     by-fault _ b _ _ e
     (λ s.
-    let a = esi-accepted (tableOf b) (o .today .yymmdd) m s in (
+    let a = esi-accepted (tableOf b) (o .today) m s in (
       after-bytes b e o (m .text) (m .text) 0 l d (omega arith) none-once a,
       after-sound b e o (m .text) (m .text) 0 l d (omega arith) none-once a,
     ))
@@ -205,8 +211,8 @@ unfolding frameLeaves frameTable
 frame-leaves-table b o f e d l w =
     by-fault _ b _ _ e
     (λ s.
-    let a = frame-accepted (tableOf b) (o .today .yymmdd) (o .kind) f s in
-    let k = frame-odd (tableOf b) (o .today .yymmdd) (o .kind) f s in (
+    let a = frame-accepted (tableOf b) (o .today) (o .kind) f s in
+    let k = frame-odd (tableOf b) (o .today) (o .kind) f s in (
       after-bytes b e o (f .suo .text) (f .var .text) (keyOr0 (f .once)) l d w k a,
       after-sound b e o (f .suo .text) (f .var .text) (keyOr0 (f .once)) l d w k a,
     ))

@@ -4,7 +4,8 @@ ghost use Rattle.ground.specs.Choice.{pick};
 ghost use Rattle.acceptance.specs.Stamps.{withStamp};
 ghost use Rattle.table.specs.Decode.{tableOf};
 ghost use Rattle.message.specs.Fields.{stampOf};
-ghost use Rattle.verdict.specs.Outcomes.{grantTo, outcomeOf, isSound, storedAt, bytesAfter, bytesBy, esiOutcome, esiLeaves, frameOutcome, frameLeaves};
+ghost use Rattle.verdict.specs.Outcomes.{grantTo, outcomeOf, isSound, storedAt, bytesAfter, bytesBy, esiOutcome, esiLeaves};
+ghost use Rattle.verdict.specs.Outcomes.{frameOutcome, frameLeaves};
 
 // The answer: code, field and the message that the field is of, the key to enclose, and the keys made in this file then.
 pub struct Outcome {
@@ -43,7 +44,7 @@ fn marked(
     m: [u8; 161],
     once: u64,
 ) -> customer::Customer
-    ensures { λ r. ⌜ r ≡ withStamp (tableOf (now (t .entry)) .holidays) (today .yymmdd) c (stampOf m) once ⌝ }
+    ensures { λ r. ⌜ r ≡ withStamp (tableOf (now (t .entry)) .holidays) today c (stampOf m) once ⌝ }
 {
     let holidays = table::holidays_in(t);
     let dates = holidays.dates;

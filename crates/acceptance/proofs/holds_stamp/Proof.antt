@@ -7,8 +7,8 @@ use borrow.Author.Tests.{eq-eqb, ne-eqb}
 use lib.ListN.{length, take, drop}
 use Rattle.ground.specs.Lists.{member}
 use Rattle.ground.proofs.Choices.{either-left, either-decides}
+use Rattle.ground.proofs.Lists.{held-none, member-next}
 use Rattle.acceptance.specs.Stamps.{holdsStamp}
-use Rattle.acceptance.proofs.Room.{held-none, member-next}
 use Rattle.acceptance.proofs.holds_stamp.Statement.{statement}
 use Rattle.acceptance.proofs.holds_stamp.Tie as tie
 
@@ -19,22 +19,14 @@ Inv-loop stamp n stamps i₀ i =
 abbrev μ-loop : tie.MeasureT-loop
 μ-loop stamp n stamps i₀ i = n - i
 
-places-requires : tie.Need-places-requires Inv-loop μ-loop
-places-requires c κs = search needs
-
 loop-holds : tie.Need-loop-holds Inv-loop μ-loop
 loop-holds c = (omega arith, search needs, refl)
-
-mul-if1 : tie.Need-mul-if1 Inv-loop μ-loop
-mul-if1 c = omega arith
-
-array-read-if1 : tie.Need-array-read-if1 Inv-loop μ-loop
-array-read-if1 c = omega arith
 
 -- those that are left decide
 left-over : (l : tie.At-loop Inv-loop μ-loop)
     → holdsStamp (l .before .before .before .args .c) (l .before .before .before .args .stamp)
-    ≡ member (l .before .before .before .args .stamp) (drop (l .loop .i) (take (l .before .before .places .result) (l .before .before .before .args .c .stamps)))
+    ≡ member (l .before .before .before .args .stamp)
+    (drop (l .loop .i) (take (l .before .before .places .result) (l .before .before .before .args .c .stamps)))
 unfolding holdsStamp
 left-over l = ap (member _) (l .before .before .places .ensures .1 _ (l .loop .inv .1)) ∙ sym (l .loop .inv .2)
 
@@ -46,16 +38,14 @@ returns c =
     ∙ member-next _ _ _ _ (c .before .loop-test .taken) (omega arith)
     ∙ either-left _ _ (eq-eqb _ _ (c .if1 .taken)))
 
-add-i : tie.Need-add-i Inv-loop μ-loop
-add-i c = omega arith
-
-loop-less : tie.Need-loop-less Inv-loop μ-loop
-loop-less c = omega arith
-
 loop-again : tie.Need-loop-again Inv-loop μ-loop
 loop-again c =
-    let l = c .before .before in
-    (omega arith, l .loop .inv .1, sym (member-next _ _ _ _ (c .before .loop-test .taken) (omega arith) ∙ either-decides _ _ (ne-eqb _ _ (c .if1 .left))) ∙ l .loop .inv .2)
+    let l = c .before .before in (
+      omega arith,
+      l .loop .inv .1,
+      sym (member-next _ _ _ _ (c .before .loop-test .taken) (omega arith)
+          ∙ either-decides _ _ (ne-eqb _ _ (c .if1 .left))) ∙ l .loop .inv .2,
+    )
 
 returns-2 : tie.Need-returns-2 Inv-loop μ-loop
 unfolding member
@@ -71,12 +61,12 @@ holds-stamp-spec =
     (tie.spec
     Inv-loop
     μ-loop
-    places-requires
+    (λ c κs. search needs)
     loop-holds
-    mul-if1
-    array-read-if1
+    (λ c. omega arith)
+    (λ c. omega arith)
     returns
-    add-i
-    loop-less
+    (λ c. omega arith)
+    (λ c. omega arith)
     loop-again
     returns-2)

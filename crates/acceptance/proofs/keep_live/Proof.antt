@@ -5,7 +5,7 @@ use Prim.Native.Nat.{_-_, _≤_}
 use native.Mathlib.Omega.{arith}
 use borrow.Author.Needs.{needs}
 use lib.ListN.{length}
-use Rattle.customer.proofs.Chain.{refused, passed}
+use Rattle.ground.proofs.Bools.{passed, refused}
 use Rattle.acceptance.specs.Stamps.{liveOf, inPlaces}
 use Rattle.acceptance.proofs.Lives.{Kept, kept-none, kept-old, kept-good, kept-all}
 use Rattle.acceptance.proofs.keep_live.Statement.{statement}
@@ -14,17 +14,11 @@ use Rattle.acceptance.proofs.keep_live.Tie as tie
 abbrev Inv-loop : tie.InvT-loop
 Inv-loop today holidays e n stamps once kept₀ beside₀ m₀ i₀ kept beside m i =
     (m ≤ i) × (i ≤ n) × (length stamps ≡ 64) × (length once ≡ 64)
-    × Kept holidays (today .yymmdd) n stamps stamps kept m i
-    × Kept holidays (today .yymmdd) n stamps once beside m i
+    × Kept holidays today n stamps stamps kept m i
+    × Kept holidays today n stamps once beside m i
 
 abbrev μ-loop : tie.MeasureT-loop
 μ-loop today holidays e n stamps once kept₀ beside₀ m₀ i₀ kept beside m i = n - i
-
-earliest-good-requires : tie.Need-earliest-good-requires Inv-loop μ-loop
-earliest-good-requires c κs = search needs
-
-places-requires : tie.Need-places-requires Inv-loop μ-loop
-places-requires c κs = search needs
 
 loop-holds : tie.Need-loop-holds Inv-loop μ-loop
 loop-holds c =
@@ -38,41 +32,8 @@ loop-holds c =
       kept-none _ _ _ _ _ (omega arith) (omega arith),
     )
 
-mul-s : tie.Need-mul-s Inv-loop μ-loop
-mul-s c = omega arith
-
-array-read-s : tie.Need-array-read-s Inv-loop μ-loop
-array-read-s c = omega arith
-
 is-old-requires : tie.Need-is-old-requires Inv-loop μ-loop
 is-old-requires c κs = c .before .before .before .before .before .earliest-good .ensures
-
-mul-kept : tie.Need-mul-kept Inv-loop μ-loop
-mul-kept c = omega arith
-
-array-write-kept : tie.Need-array-write-kept Inv-loop μ-loop
-array-write-kept c = omega arith
-
-mul-beside : tie.Need-mul-beside Inv-loop μ-loop
-mul-beside c = omega arith
-
-array-read-beside : tie.Need-array-read-beside Inv-loop μ-loop
-array-read-beside c = omega arith
-
-mul-beside-2 : tie.Need-mul-beside-2 Inv-loop μ-loop
-mul-beside-2 c = omega arith
-
-array-write-beside : tie.Need-array-write-beside Inv-loop μ-loop
-array-write-beside c = omega arith
-
-add-m : tie.Need-add-m Inv-loop μ-loop
-add-m c = omega arith
-
-add-i : tie.Need-add-i Inv-loop μ-loop
-add-i c = omega arith
-
-loop-less : tie.Need-loop-less Inv-loop μ-loop
-loop-less c = omega arith
 
 loop-again : tie.Need-loop-again Inv-loop μ-loop
 loop-again c =
@@ -101,9 +62,6 @@ loop-again c =
     ))
     (c .if1 .came)
 
-cast-t28 : tie.Need-cast-t28 Inv-loop μ-loop
-cast-t28 c = omega arith
-
 returns : tie.Need-returns Inv-loop μ-loop
 returns c =
     let l = c .before in
@@ -123,21 +81,21 @@ keep-live-spec =
     (tie.spec
     Inv-loop
     μ-loop
-    earliest-good-requires
-    places-requires
+    (λ c κs. search needs)
+    (λ c κs. search needs)
     loop-holds
-    mul-s
-    array-read-s
+    (λ c. omega arith)
+    (λ c. omega arith)
     is-old-requires
-    mul-kept
-    array-write-kept
-    mul-beside
-    array-read-beside
-    mul-beside-2
-    array-write-beside
-    add-m
-    add-i
-    loop-less
+    (λ c. omega arith)
+    (λ c. omega arith)
+    (λ c. omega arith)
+    (λ c. omega arith)
+    (λ c. omega arith)
+    (λ c. omega arith)
+    (λ c. omega arith)
+    (λ c. omega arith)
+    (λ c. omega arith)
     loop-again
-    cast-t28
+    (λ c. omega arith)
     returns)

@@ -1,14 +1,8 @@
 -- The key is the maker's, the seed is moved on, and the customer's keys are changed by that key.
-use Rattle.acceptance.specs.Grants.{newKey}
+use Rattle.acceptance.specs.Steps.{newKey}
 use borrow.Author.Needs.{needs}
 use Rattle.acceptance.proofs.new_key.Statement.{statement}
 use Rattle.acceptance.proofs.new_key.Tie as tie
-
-take-key-requires : tie.Need-take-key-requires
-take-key-requires c κs = search needs
-
-with-working-requires : tie.Need-with-working-requires
-with-working-requires c κs = search needs
 
 returns : tie.Need-returns
 unfolding newKey
@@ -17,4 +11,4 @@ returns c =
     rw (c .with-working .ensures, k .0, k .1)
 
 pub new-key-spec : {M : Type 1} → statement M
-new-key-spec = tie.close (tie.spec take-key-requires with-working-requires returns)
+new-key-spec = tie.close (tie.spec (λ c κs. search needs) (λ c κs. search needs) returns)

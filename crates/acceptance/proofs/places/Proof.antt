@@ -5,11 +5,8 @@ use borrow.Author.Needs.{needs}
 use Rattle.acceptance.proofs.places.Statement.{statement}
 use Rattle.acceptance.proofs.places.Tie as tie
 
-returns : tie.Need-returns
-returns c = search needs
-
 returns-2 : tie.Need-returns-2
 returns-2 c = (omega arith, λ l e. take-more _ l e (c .if1 .left))
 
 pub places-spec : {M : Type 1} → statement M
-places-spec = tie.close (tie.spec returns returns-2)
+places-spec = tie.close (tie.spec (λ c. search needs) returns-2)

@@ -1,28 +1,19 @@
 -- The request is 0 or 1, and else there is nothing to grant.
 use borrow.Author.Tests.{eq-eqb, ne-eqb}
-use Rattle.acceptance.specs.Grants.{underPrevious}
+use Rattle.acceptance.specs.Steps.{underPrevious}
 use Rattle.acceptance.proofs.Grants.{here, there}
 use borrow.Author.Needs.{needs}
 use Rattle.acceptance.proofs.under_previous.Statement.{statement}
 use Rattle.acceptance.proofs.under_previous.Tie as tie
 
-without-key-requires : tie.Need-without-key-requires
-without-key-requires c κs = search needs
-
 returns : tie.Need-returns
 unfolding underPrevious
 returns c = here _ _ _ _ (eq-eqb _ _ (c .before .if1 .taken)) (c .without-key .ensures)
-
-without-key-requires-2 : tie.Need-without-key-requires-2
-without-key-requires-2 c κs = search needs
 
 returns-2 : tie.Need-returns-2
 unfolding underPrevious
 returns-2 c =
     there _ _ _ _ (ne-eqb _ _ (c .before .before .if1 .left)) (here _ _ _ _ (eq-eqb _ _ (c .before .if2 .taken)) (c .without-key2 .ensures))
-
-without-key-requires-3 : tie.Need-without-key-requires-3
-without-key-requires-3 c κs = search needs
 
 returns-3 : tie.Need-returns-3
 unfolding underPrevious
@@ -33,9 +24,9 @@ pub under-previous-spec : {M : Type 1} → statement M
 under-previous-spec =
     tie.close
     (tie.spec
-    without-key-requires
+    (λ c κs. search needs)
     returns
-    without-key-requires-2
+    (λ c κs. search needs)
     returns-2
-    without-key-requires-3
+    (λ c κs. search needs)
     returns-3)

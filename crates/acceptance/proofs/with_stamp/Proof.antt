@@ -5,27 +5,6 @@ use borrow.Author.Needs.{needs}
 use Rattle.acceptance.proofs.with_stamp.Statement.{statement}
 use Rattle.acceptance.proofs.with_stamp.Tie as tie
 
-keep-live-requires : tie.Need-keep-live-requires
-keep-live-requires c κs = search needs
-
-cast-n : tie.Need-cast-n
-cast-n c = search needs
-
-mul-stamps : tie.Need-mul-stamps
-mul-stamps c = search needs
-
-array-write-stamps : tie.Need-array-write-stamps
-array-write-stamps c = search needs
-
-mul-beside : tie.Need-mul-beside
-mul-beside c = search needs
-
-array-write-beside : tie.Need-array-write-beside
-array-write-beside c = search needs
-
-add-t21 : tie.Need-add-t21
-add-t21 c = search needs
-
 returns : tie.Need-returns
 returns c =
     let i = c .before .before .before .before in
@@ -38,11 +17,11 @@ pub with-stamp-spec : {M : Type 1} → statement M
 with-stamp-spec =
     tie.close
     (tie.spec
-    keep-live-requires
-    cast-n
-    mul-stamps
-    array-write-stamps
-    mul-beside
-    array-write-beside
-    add-t21
+    (λ c κs. search needs)
+    (λ c. search needs)
+    (λ c. search needs)
+    (λ c. search needs)
+    (λ c. search needs)
+    (λ c. search needs)
+    (λ c. search needs)
     returns)

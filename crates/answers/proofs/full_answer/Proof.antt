@@ -4,24 +4,6 @@ use borrow.Author.Needs.{needs}
 use Rattle.answers.proofs.full_answer.Statement.{statement}
 use Rattle.answers.proofs.full_answer.Tie as tie
 
-settings-requires : tie.Need-settings-requires
-settings-requires c κs = search needs
-
-customer-of-requires : tie.Need-customer-of-requires
-customer-of-requires c κs = search needs
-
-working-generation-requires : tie.Need-working-generation-requires
-working-generation-requires c κs = search needs
-
-held-requires : tie.Need-held-requires
-held-requires c κs = search needs
-
-transport-generation-requires : tie.Need-transport-generation-requires
-transport-generation-requires c κs = search needs
-
-held-requires-2 : tie.Need-held-requires-2
-held-requires-2 c κs = search needs
-
 returns : tie.Need-returns
 returns c =
     full-made _ _ _ _ _ _ (c .before .before .before .before .before .before .before .before .before .settings .ensures)
@@ -32,10 +14,10 @@ pub full-answer-spec : {M : Type 1} → statement M
 full-answer-spec =
     tie.close
     (tie.spec
-    settings-requires
-    customer-of-requires
-    working-generation-requires
-    held-requires
-    transport-generation-requires
-    held-requires-2
+    (λ c κs. search needs)
+    (λ c κs. search needs)
+    (λ c κs. search needs)
+    (λ c κs. search needs)
+    (λ c κs. search needs)
+    (λ c κs. search needs)
     returns)

@@ -20,35 +20,39 @@ loop-holds : tie.Need-loop-holds Inv-loop μ-loop
 unfolding dateOf
 loop-holds c = (omega arith, omega arith, sym (from-walk 100 1980 _))
 
-days-in-year-requires : tie.Need-days-in-year-requires Inv-loop μ-loop
-days-in-year-requires c κs = search needs
-
-mul-d : tie.Need-mul-d Inv-loop μ-loop
-mul-d c = omega arith
-
-in-year-requires : tie.Need-in-year-requires Inv-loop μ-loop
-in-year-requires c κs = search needs
-
 add-d : tie.Need-add-d Inv-loop μ-loop
-add-d c = omega (arith, c .in-year .ensures, in-year-le (c .before .before .before .before .loop .y) 12 1 (c .before .before .before .before .loop .left) (omega arith))
+add-d c = omega (
+  arith,
+  c .in-year .ensures,
+  in-year-le (c .before .before .before .before .loop .y) 12 1
+      (c .before .before .before .before .loop .left) (omega arith),
+)
 
 cast-t10 : tie.Need-cast-t10 Inv-loop μ-loop
-cast-t10 c = omega (arith, c .in-year .ensures, in-year-le (c .before .before .before .before .loop .y) 12 1 (c .before .before .before .before .loop .left) (omega arith))
+cast-t10 c = omega (
+  arith,
+  c .in-year .ensures,
+  in-year-le (c .before .before .before .before .loop .y) 12 1
+      (c .before .before .before .before .loop .left) (omega arith),
+)
 
 returns : tie.Need-returns Inv-loop μ-loop
 returns c =
-    ap (λ (x : ℕ). 10000 * (c .before .before .before .before .loop .y % 100) + x) (c .in-year .ensures)
-    ∙ sym (here _ yearDate 791231 _ _ 2080 (c .before .before .before .loop-test .taken) (rw (c .before .before .days-in-year .ensures) at (c .before .if1 .taken)))
-    ∙ c .before .before .before .before .loop .inv .2
-
-add-y : tie.Need-add-y Inv-loop μ-loop
-add-y c = omega arith
-
-loop-less : tie.Need-loop-less Inv-loop μ-loop
-loop-less c = omega arith
+    let at-loop-test = c .before .before .before in
+    let at-loop = at-loop-test .before in
+    ap (λ (x : ℕ). 10000 * (at-loop .loop .y % 100) + x) (c .in-year .ensures)
+    ∙ sym (here _ yearDate 791231 _ _ 2080 (at-loop-test .loop-test .taken)
+    (rw (c .before .before .days-in-year .ensures) at (c .before .if1 .taken)))
+    ∙ at-loop .loop .inv .2
 
 loop-again : tie.Need-loop-again Inv-loop μ-loop
-loop-again c = (omega arith, omega arith, rw (c .before .days-in-year .ensures) (sym (on _ yearDate 791231 _ _ 2080 (c .before .before .loop-test .taken) (rw (c .before .days-in-year .ensures) at (c .if1 .left))) ∙ c .before .before .before .loop .inv .2))
+loop-again c = (
+  omega arith,
+  omega arith,
+  rw (c .before .days-in-year .ensures)
+      (sym (on _ yearDate 791231 _ _ 2080 (c .before .before .loop-test .taken) (rw (c .before .days-in-year .ensures) at (c .if1 .left)))
+      ∙ c .before .before .before .loop .inv .2),
+)
 
 returns-2 : tie.Need-returns-2 Inv-loop μ-loop
 returns-2 c = sym (over _ yearDate 791231 _ _ 2080 (c .loop-test .left)) ∙ c .before .loop .inv .2
@@ -60,13 +64,13 @@ date-of-spec =
     Inv-loop
     μ-loop
     loop-holds
-    days-in-year-requires
-    mul-d
-    in-year-requires
+    (λ c κs. search needs)
+    (λ c. omega arith)
+    (λ c κs. search needs)
     add-d
     cast-t10
     returns
-    add-y
-    loop-less
+    (λ c. omega arith)
+    (λ c. omega arith)
     loop-again
     returns-2)

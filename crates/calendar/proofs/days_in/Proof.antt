@@ -10,9 +10,6 @@ use borrow.Author.Needs.{needs}
 use Rattle.calendar.proofs.days_in.Statement.{statement}
 use Rattle.calendar.proofs.days_in.Tie as tie
 
-is-leap-requires : tie.Need-is-leap-requires
-is-leap-requires c κs = search needs
-
 returns : tie.Need-returns
 unfolding daysIn both one
 returns c = rw (c .match .keys1)
@@ -41,4 +38,4 @@ returns-6 c = sym (beyond _ _ (c .if2 .left))
 
 pub days-in-spec : {M : Type 1} → statement M
 days-in-spec =
-    tie.close (tie.spec is-leap-requires returns returns-2 returns-3 returns-4 returns-5 returns-6)
+    tie.close (tie.spec (λ c κs. search needs) returns returns-2 returns-3 returns-4 returns-5 returns-6)

@@ -8,9 +8,6 @@ use borrow.Author.Needs.{needs}
 use Rattle.calendar.proofs.days_in_year.Statement.{statement}
 use Rattle.calendar.proofs.days_in_year.Tie as tie
 
-is-leap-requires : tie.Need-is-leap-requires
-is-leap-requires c κs = search needs
-
 returns : tie.Need-returns
 unfolding one
 returns c = ap (λ (t : Bool). 365 + one t) (sym (c .if1 .taken) ∙ c .before .is-leap .ensures)
@@ -20,4 +17,4 @@ unfolding one
 returns-2 c = ap (λ (t : Bool). 365 + one t) (sym (c .if1 .left) ∙ c .before .is-leap .ensures)
 
 pub days-in-year-spec : {M : Type 1} → statement M
-days-in-year-spec = tie.close (tie.spec is-leap-requires returns returns-2)
+days-in-year-spec = tie.close (tie.spec (λ c κs. search needs) returns returns-2)

@@ -31,15 +31,6 @@ back c b e =
 loop-holds : tie.Need-loop-holds Inv-loop μ-loop
 loop-holds c = (omega arith, omega arith, sym (up-none _ _ _ (omega arith)))
 
-is-banking-requires : tie.Need-is-banking-requires Inv-loop μ-loop
-is-banking-requires c κs = omega arith
-
-next-requires : tie.Need-next-requires Inv-loop μ-loop
-next-requires c κs = omega arith
-
-is-more-than-requires : tie.Need-is-more-than-requires Inv-loop μ-loop
-is-more-than-requires c κs = search needs
-
 returns : tie.Need-returns Inv-loop μ-loop
 returns c =
     let asked = c .before .before .before .before in
@@ -50,12 +41,6 @@ returns c =
     let five : ahead at (at .loop .k) ≡ 5 = omega (arith, i .1, i .2, met .ensures, more) in
     let banking = sym (asked .is-banking .ensures) ∙ c .before .before .before .if1 .taken in
     sym (first-is _ _ _ (asked .before .loop-test .taken) (i .0) five banking)
-
-sub-k : tie.Need-sub-k Inv-loop μ-loop
-sub-k c = omega arith
-
-loop-less : tie.Need-loop-less Inv-loop μ-loop
-loop-less c = omega arith
 
 loop-again : tie.Need-loop-again Inv-loop μ-loop
 unfolding one
@@ -80,11 +65,11 @@ first-good-spec =
     Inv-loop
     μ-loop
     loop-holds
-    is-banking-requires
-    next-requires
-    is-more-than-requires
+    (λ c κs. omega arith)
+    (λ c κs. omega arith)
+    (λ c κs. search needs)
     returns
-    sub-k
-    loop-less
+    (λ c. omega arith)
+    (λ c. omega arith)
     loop-again
     returns-2)

@@ -19,29 +19,32 @@ abbrev μ-loop : tie.MeasureT-loop
 loop-holds : tie.Need-loop-holds Inv-loop μ-loop
 loop-holds c = (omega arith, omega arith, sym (in-walk _ 12 1 _))
 
-days-in-requires : tie.Need-days-in-requires Inv-loop μ-loop
-days-in-requires c κs = search needs
-
-mul-result : tie.Need-mul-result Inv-loop μ-loop
-mul-result c = omega arith
-
 add-result : tie.Need-add-result Inv-loop μ-loop
-add-result c = omega (arith, days-in-le (c .before .before .before .before .args .y) (c .before .before .before .loop .m), c .before .days-in .ensures)
+add-result c = omega (
+  arith,
+  days-in-le (c .before .before .before .before .args .y) (c .before .before .before .loop .m),
+  c .before .days-in .ensures,
+)
 
 add-result-2 : tie.Need-add-result-2 Inv-loop μ-loop
-add-result-2 c = omega (arith, days-in-le (c .before .before .before .before .args .y) (c .before .before .before .loop .m), c .before .days-in .ensures)
+add-result-2 c = omega (
+  arith,
+  days-in-le (c .before .before .before .before .args .y) (c .before .before .before .loop .m),
+  c .before .days-in .ensures,
+)
 
 returns : tie.Need-returns Inv-loop μ-loop
-returns c = sym (here _ monthDay 1231 _ _ 13 (c .before .before .loop-test .taken) (rw (c .before .days-in .ensures) at (c .if1 .taken))) ∙ c .before .before .before .loop .inv .2
-
-add-m : tie.Need-add-m Inv-loop μ-loop
-add-m c = omega arith
-
-loop-less : tie.Need-loop-less Inv-loop μ-loop
-loop-less c = omega arith
+returns c = sym (here _ monthDay 1231 _ _ 13 (c .before .before .loop-test .taken)
+    (rw (c .before .days-in .ensures) at (c .if1 .taken))) ∙ c .before .before .before .loop .inv .2
 
 loop-again : tie.Need-loop-again Inv-loop μ-loop
-loop-again c = (omega arith, omega arith, rw (c .before .days-in .ensures) (sym (on _ monthDay 1231 _ _ 13 (c .before .before .loop-test .taken) (rw (c .before .days-in .ensures) at (c .if1 .left))) ∙ c .before .before .before .loop .inv .2))
+loop-again c = (
+  omega arith,
+  omega arith,
+  rw (c .before .days-in .ensures)
+      (sym (on _ monthDay 1231 _ _ 13 (c .before .before .loop-test .taken) (rw (c .before .days-in .ensures) at (c .if1 .left)))
+      ∙ c .before .before .before .loop .inv .2),
+)
 
 returns-2 : tie.Need-returns-2 Inv-loop μ-loop
 returns-2 c = sym (over _ monthDay 1231 _ _ 13 (c .loop-test .left)) ∙ c .before .loop .inv .2
@@ -53,12 +56,12 @@ in-year-spec =
     Inv-loop
     μ-loop
     loop-holds
-    days-in-requires
-    mul-result
+    (λ c κs. search needs)
+    (λ c. omega arith)
     add-result
     add-result-2
     returns
-    add-m
-    loop-less
+    (λ c. omega arith)
+    (λ c. omega arith)
     loop-again
     returns-2)

@@ -15,7 +15,8 @@ use Rattle.calendar.proofs.is_real_time.Tie as tie
 -- the first two tests, joined
 flag : (c : tie.Joined1) → c .if1 .if2 ≡ both (ltb (c .before .args .hhmmss) 240000) (ltb (c .before .args .hhmmss / 100 % 100) 60)
 flag c =
-    ⊎-elim (λ w. w .1 ∙ sym (decides _ _ (lt-ltb _ _ (w .0 .taken)))) (λ w. let f = le-ltb _ _ (w .0 .left) in w .1 ∙ f ∙ sym (fails-left _ _ f)) (c .if1 .came)
+    ⊎-elim (λ w. w .1 ∙ sym (decides _ _ (lt-ltb _ _ (w .0 .taken)))) (λ w. let f = le-ltb _ _ (w .0 .left) in w .1 ∙ f
+    ∙ sym (fails-left _ _ f)) (c .if1 .came)
 
 returns : tie.Need-returns
 unfolding realTime
@@ -27,7 +28,8 @@ returns c =
 returns-2 : tie.Need-returns-2
 unfolding realTime
 returns-2 c =
-    ⊎-elim (λ w. sym (fails-right _ _ (fails-left _ _ (sym (w .1) ∙ c .if2 .left)) ∙ sym (c .if2 .left))) (λ w. let f = le-ltb _ _ (w .0 .left) in w .1 ∙ f ∙ sym (fails-left _ _ f)) (c .before .if1 .came)
+    ⊎-elim (λ w. sym (fails-right _ _ (fails-left _ _ (sym (w .1) ∙ c .if2 .left)) ∙ sym (c .if2 .left)))
+    (λ w. let f = le-ltb _ _ (w .0 .left) in w .1 ∙ f ∙ sym (fails-left _ _ f)) (c .before .if1 .came)
 
 pub is-real-time-spec : {M : Type 1} → statement M
 is-real-time-spec = tie.close (tie.spec returns returns-2)

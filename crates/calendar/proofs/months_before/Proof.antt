@@ -1,7 +1,7 @@
 -- `calendar::months_before` meets its contract: after i turns the days are those of the months before month i.
 -- Assumes nothing.
 use mathlib.Core.Path.{_≡_, refl, sym, ap, ap₂, _∙_}
-use Prim.Native.Nat.{_+_, _-_, _≤_}
+use Prim.Native.Nat.{_-_, _≤_, _+_}
 use Rattle.calendar.specs.Dates.{monthsBefore}
 use Rattle.calendar.proofs.Months.{month-step, months-le, days-in-le}
 use borrow.Author.Needs.{needs}
@@ -19,17 +19,14 @@ loop-holds : tie.Need-loop-holds Inv-loop μ-loop
 unfolding monthsBefore
 loop-holds c = (omega arith, refl)
 
-days-in-requires : tie.Need-days-in-requires Inv-loop μ-loop
-days-in-requires c κs = search needs
-
 add-days : tie.Need-add-days Inv-loop μ-loop
-add-days c = omega (arith, months-le (c .before .before .before .args .y) (c .before .before .loop .i), days-in-le (c .before .before .before .args .y) (c .before .before .loop .i), c .days-in .ensures)
-
-add-i : tie.Need-add-i Inv-loop μ-loop
-add-i c = omega arith
-
-loop-less : tie.Need-loop-less Inv-loop μ-loop
-loop-less c = omega arith
+add-days c = omega (
+  arith,
+  months-le (c .before .before .before .args .y) (c .before .before .loop .i),
+  days-in-le
+      (c .before .before .before .args .y) (c .before .before .loop .i),
+  c .days-in .ensures,
+)
 
 loop-again : tie.Need-loop-again Inv-loop μ-loop
 loop-again c = (omega arith, ap₂ _+_ (c .before .before .loop .inv .1) (c .days-in .ensures) ∙ sym (month-step _ _ (omega arith)))
@@ -44,9 +41,9 @@ months-before-spec =
     Inv-loop
     μ-loop
     loop-holds
-    days-in-requires
+    (λ c κs. search needs)
     add-days
-    add-i
-    loop-less
+    (λ c. omega arith)
+    (λ c. omega arith)
     loop-again
     returns)

@@ -4,11 +4,5 @@ use native.Mathlib.Omega.{arith}
 use Rattle.calendar.proofs.place_in_order.Statement.{statement}
 use Rattle.calendar.proofs.place_in_order.Tie as tie
 
-add-result : tie.Need-add-result
-add-result c = omega arith
-
-returns : tie.Need-returns
-returns c = omega arith
-
 pub place-in-order-spec : {M : Type 1} → statement M
-place-in-order-spec = tie.close (tie.spec add-result returns)
+place-in-order-spec = tie.close (tie.spec (λ c. omega arith) (λ c. omega arith))

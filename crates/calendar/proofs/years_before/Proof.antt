@@ -19,20 +19,8 @@ loop-holds : tie.Need-loop-holds Inv-loop μ-loop
 unfolding yearsBefore
 loop-holds c = (omega arith, refl)
 
-add-days-in-year : tie.Need-add-days-in-year Inv-loop μ-loop
-add-days-in-year c = omega arith
-
-days-in-year-requires : tie.Need-days-in-year-requires Inv-loop μ-loop
-days-in-year-requires c κs = search needs
-
 add-days : tie.Need-add-days Inv-loop μ-loop
 add-days c = omega (arith, years-le (c .before .before .loop .i), year-le (1980 + c .before .before .loop .i), c .days-in-year .ensures)
-
-add-i : tie.Need-add-i Inv-loop μ-loop
-add-i c = omega arith
-
-loop-less : tie.Need-loop-less Inv-loop μ-loop
-loop-less c = omega arith
 
 loop-again : tie.Need-loop-again Inv-loop μ-loop
 loop-again c = (omega arith, ap₂ _+_ (c .before .before .loop .inv .1) (c .days-in-year .ensures) ∙ sym (years-step _))
@@ -47,10 +35,10 @@ years-before-spec =
     Inv-loop
     μ-loop
     loop-holds
-    add-days-in-year
-    days-in-year-requires
+    (λ c. omega arith)
+    (λ c κs. search needs)
     add-days
-    add-i
-    loop-less
+    (λ c. omega arith)
+    (λ c. omega arith)
     loop-again
     returns)

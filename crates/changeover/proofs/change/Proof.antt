@@ -4,11 +4,8 @@ use borrow.Author.Needs.{needs}
 use Rattle.changeover.proofs.change.Statement.{statement}
 use Rattle.changeover.proofs.change.Tie as tie
 
-plus-requires : tie.Need-plus-requires
-plus-requires c κs = search needs
-
 returns : tie.Need-returns
 returns c = until _ _ _ _ _ _ (c .plus .ensures)
 
 pub change-spec : {M : Type 1} → statement M
-change-spec = tie.close (tie.spec plus-requires returns)
+change-spec = tie.close (tie.spec (λ c κs. search needs) returns)

@@ -11,12 +11,9 @@ returns : tie.Need-returns
 unfolding heldKey
 returns c = sym (picks _ _ _ (eq-eqb _ _ (c .if1 .taken)))
 
-named-requires : tie.Need-named-requires
-named-requires c κs = search needs
-
 returns-2 : tie.Need-returns-2
 unfolding heldKey
 returns-2 c = c .named .ensures ∙ sym (skips _ _ _ (ne-eqb _ _ (c .before .if1 .left)))
 
 pub held-spec : {M : Type 1} → statement M
-held-spec = tie.close (tie.spec returns named-requires returns-2)
+held-spec = tie.close (tie.spec returns (λ c κs. search needs) returns-2)

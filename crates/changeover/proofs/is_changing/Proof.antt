@@ -1,18 +1,9 @@
 -- Nothing is never changing, and of a key that is held the last day decides.
-use Rattle.customer.proofs.Chain.{turned}
 use Rattle.changeover.specs.Held.{changing}
 use borrow.Author.Needs.{needs}
+use Rattle.ground.proofs.Bools.{turned}
 use Rattle.changeover.proofs.is_changing.Statement.{statement}
 use Rattle.changeover.proofs.is_changing.Tie as tie
-
-enum-told : tie.Need-enum-told
-enum-told c = search needs
-
-enum-known-p : tie.Need-enum-known-p
-enum-known-p c = search needs
-
-before-requires : tie.Need-before-requires
-before-requires c κs = search needs
 
 returns : tie.Need-returns
 unfolding changing
@@ -23,4 +14,4 @@ unfolding changing
 returns-2 c = rw (c .before .before .before .p .given .1) (turned (c .before2 .ensures))
 
 pub is-changing-spec : {M : Type 1} → statement M
-is-changing-spec = tie.close (tie.spec enum-told enum-known-p before-requires returns returns-2)
+is-changing-spec = tie.close (tie.spec (λ c. search needs) (λ c. search needs) (λ c κs. search needs) returns returns-2)

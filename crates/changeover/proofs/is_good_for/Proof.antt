@@ -11,12 +11,9 @@ returns : tie.Need-returns
 unfolding goodFor
 returns c = sym (either-left _ _ (eq-eqb _ _ (c .if1 .taken)))
 
-is-previous-good-requires : tie.Need-is-previous-good-requires
-is-previous-good-requires c κs = search needs
-
 returns-2 : tie.Need-returns-2
 unfolding goodFor
 returns-2 c = c .is-previous-good .ensures ∙ sym (either-decides _ _ (ne-eqb _ _ (c .before .if1 .left)))
 
 pub is-good-for-spec : {M : Type 1} → statement M
-is-good-for-spec = tie.close (tie.spec returns is-previous-good-requires returns-2)
+is-good-for-spec = tie.close (tie.spec returns (λ c κs. search needs) returns-2)

@@ -4,15 +4,6 @@ use borrow.Author.Needs.{needs}
 use Rattle.changeover.proofs.is_previous_good.Statement.{statement}
 use Rattle.changeover.proofs.is_previous_good.Tie as tie
 
-enum-told : tie.Need-enum-told
-enum-told c = search needs
-
-enum-known-p : tie.Need-enum-known-p
-enum-known-p c = search needs
-
-is-within-requires : tie.Need-is-within-requires
-is-within-requires c κs = search needs
-
 returns : tie.Need-returns
 unfolding previousGood
 returns c = rw (c .enum-told .given .1)
@@ -22,4 +13,4 @@ returns-2 c = rw (c .before .before .p .given .1) (c .is-within .ensures)
 
 pub is-previous-good-spec : {M : Type 1} → statement M
 is-previous-good-spec =
-    tie.close (tie.spec enum-told enum-known-p is-within-requires returns returns-2)
+    tie.close (tie.spec (λ c. search needs) (λ c. search needs) (λ c κs. search needs) returns returns-2)

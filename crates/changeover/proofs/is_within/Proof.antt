@@ -1,9 +1,8 @@
 -- Each test that fails makes the whole fail, and the last one decides.
 use borrow.Author.Tests.{eq-eqb, ne-eqb}
-use Rattle.customer.proofs.Chain.{stop, later, past, turned}
-use Rattle.changeover.proofs.Laws.{denied, granted}
 use Rattle.changeover.specs.Held.{previousGood}
 use borrow.Author.Needs.{needs}
+use Rattle.ground.proofs.Bools.{denied, granted, later, past, stop, turned}
 use Rattle.changeover.proofs.is_within.Statement.{statement}
 use Rattle.changeover.proofs.is_within.Tie as tie
 
@@ -11,15 +10,9 @@ returns : tie.Need-returns
 unfolding previousGood
 returns c = stop _ _ (ne-eqb _ _ (c .if1 .taken))
 
-before-requires : tie.Need-before-requires
-before-requires c κs = search needs
-
 returns-2 : tie.Need-returns-2
 unfolding previousGood
 returns-2 c = later _ _ (stop _ _ (denied (c .before .before2 .ensures) (c .if2 .taken)))
-
-before-requires-2 : tie.Need-before-requires-2
-before-requires-2 c κs = search needs
 
 returns-3 : tie.Need-returns-3
 unfolding previousGood
@@ -30,4 +23,4 @@ returns-3 c =
     (past _ _ _ (granted (i2 .before .before2 .ensures) (i2 .if2 .left)) (turned (c .before3 .ensures)))
 
 pub is-within-spec : {M : Type 1} → statement M
-is-within-spec = tie.close (tie.spec returns before-requires returns-2 before-requires-2 returns-3)
+is-within-spec = tie.close (tie.spec returns (λ c κs. search needs) returns-2 (λ c κs. search needs) returns-3)

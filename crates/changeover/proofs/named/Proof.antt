@@ -7,12 +7,6 @@ use borrow.Author.Needs.{needs}
 use Rattle.changeover.proofs.named.Statement.{statement}
 use Rattle.changeover.proofs.named.Tie as tie
 
-enum-told : tie.Need-enum-told
-enum-told c = search needs
-
-enum-known-p : tie.Need-enum-known-p
-enum-known-p c = search needs
-
 returns : tie.Need-returns
 unfolding previousNamed
 returns c = rw (c .before .before .before .p .given .1) (sym (picks _ _ _ (eq-eqb _ _ (c .if1 .taken))))
@@ -26,4 +20,4 @@ unfolding previousNamed
 returns-3 c = rw (c .before .before .before .p .given .1) (sym (skips _ _ _ (ne-eqb _ _ (c .if1 .left))))
 
 pub named-spec : {M : Type 1} → statement M
-named-spec = tie.close (tie.spec enum-told enum-known-p returns returns-2 returns-3)
+named-spec = tie.close (tie.spec (λ c. search needs) (λ c. search needs) returns returns-2 returns-3)

@@ -4,15 +4,9 @@ use borrow.Author.Needs.{needs}
 use Rattle.changeover.proofs.with_transport.Statement.{statement}
 use Rattle.changeover.proofs.with_transport.Tie as tie
 
-change-requires : tie.Need-change-requires
-change-requires c κs = search needs
-
-with-keys-requires : tie.Need-with-keys-requires
-with-keys-requires c κs = search needs
-
 returns : tie.Need-returns
 unfolding withTransport
 returns c = rw (c .with-keys .ensures, c .before .change .ensures)
 
 pub with-transport-spec : {M : Type 1} → statement M
-with-transport-spec = tie.close (tie.spec change-requires with-keys-requires returns)
+with-transport-spec = tie.close (tie.spec (λ c κs. search needs) (λ c κs. search needs) returns)

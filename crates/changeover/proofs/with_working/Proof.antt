@@ -4,19 +4,10 @@ use borrow.Author.Needs.{needs}
 use Rattle.changeover.proofs.with_working.Statement.{statement}
 use Rattle.changeover.proofs.with_working.Tie as tie
 
-next-generation-requires : tie.Need-next-generation-requires
-next-generation-requires c κs = search needs
-
-change-requires : tie.Need-change-requires
-change-requires c κs = search needs
-
-with-keys-requires : tie.Need-with-keys-requires
-with-keys-requires c κs = search needs
-
 returns : tie.Need-returns
 unfolding withWorking
 returns c = rw (c .with-keys .ensures, c .before .change .ensures, c .before .before .next-generation .ensures)
 
 pub with-working-spec : {M : Type 1} → statement M
 with-working-spec =
-    tie.close (tie.spec next-generation-requires change-requires with-keys-requires returns)
+    tie.close (tie.spec (λ c κs. search needs) (λ c κs. search needs) (λ c κs. search needs) returns)

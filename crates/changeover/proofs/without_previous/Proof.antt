@@ -4,12 +4,9 @@ use borrow.Author.Needs.{needs}
 use Rattle.changeover.proofs.without_previous.Statement.{statement}
 use Rattle.changeover.proofs.without_previous.Tie as tie
 
-with-keys-requires : tie.Need-with-keys-requires
-with-keys-requires c κs = search needs
-
 returns : tie.Need-returns
 unfolding withoutPrevious
 returns c = c .with-keys .ensures
 
 pub without-previous-spec : {M : Type 1} → statement M
-without-previous-spec = tie.close (tie.spec with-keys-requires returns)
+without-previous-spec = tie.close (tie.spec (λ c κs. search needs) returns)

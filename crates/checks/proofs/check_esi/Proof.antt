@@ -5,32 +5,11 @@ use borrow.Author.Needs.{needs}
 use Rattle.checks.proofs.check_esi.Statement.{statement}
 use Rattle.checks.proofs.check_esi.Tie as tie
 
-customer-of-requires : tie.Need-customer-of-requires
-customer-of-requires c κs = search needs
-
-holidays-in-requires : tie.Need-holidays-in-requires
-holidays-in-requires c κs = search needs
-
-cast-n : tie.Need-cast-n
-cast-n c = search needs
-
-form-faults-requires : tie.Need-form-faults-requires
-form-faults-requires c κs = search needs
-
-party-faults-requires : tie.Need-party-faults-requires
-party-faults-requires c κs = search needs
-
 array-share-prefix-dates : tie.Need-array-share-prefix-dates
 array-share-prefix-dates c = lent-room _ _ (c .before .before .before .before .holidays-in .ensures)
 
 slice-aggregate-stamp-faults : tie.Need-slice-aggregate-stamp-faults
 slice-aggregate-stamp-faults c = lent-count _ _ (c .before .before .before .before .before .holidays-in .ensures)
-
-stamp-faults-requires : tie.Need-stamp-faults-requires
-stamp-faults-requires c κs = search needs
-
-esi-key-faults-requires : tie.Need-esi-key-faults-requires
-esi-key-faults-requires c κs = search needs
 
 array-share-prefix-dates-2 : tie.Need-array-share-prefix-dates-2
 array-share-prefix-dates-2 c = lent-room _ _ (c .before .before .before .before .before .before .before .holidays-in .ensures)
@@ -38,45 +17,40 @@ array-share-prefix-dates-2 c = lent-room _ _ (c .before .before .before .before 
 slice-aggregate-room-faults : tie.Need-slice-aggregate-room-faults
 slice-aggregate-room-faults c = lent-count _ _ (c .before .before .before .before .before .before .before .before .holidays-in .ensures)
 
-room-faults-requires : tie.Need-room-faults-requires
-room-faults-requires c κs = search needs
-
-or-else-requires : tie.Need-or-else-requires
-or-else-requires c κs = search needs
-
-or-else-requires-2 : tie.Need-or-else-requires-2
-or-else-requires-2 c κs = search needs
-
-or-else-requires-3 : tie.Need-or-else-requires-3
-or-else-requires-3 c κs = search needs
-
-or-else-requires-4 : tie.Need-or-else-requires-4
-or-else-requires-4 c κs = search needs
-
 returns : tie.Need-returns
 returns c =
-    let h = lent-dates _ _ (c .before .before .before .before .before .before .before .before .before .before .before .before .before .holidays-in .ensures) in
-    esi-first _ _ _ _ (c .before .before .before .before .before .before .before .before .before .before .before .before .before .before .customer-of .ensures) (c .or-else4 .ensures) (c .before .or-else3 .ensures) (c .before .before .or-else2 .ensures) (c .before .before .before .or-else .ensures)
-    (c .before .before .before .before .before .before .before .before .before .before .form-faults .ensures) (c .before .before .before .before .before .before .before .before .before .party-faults .ensures) (c .before .before .before .before .before .before .before .stamp-faults .ensures _ h) (c .before .before .before .before .before .before .esi-key-faults .ensures) (c .before .before .before .before .room-faults .ensures _ h)
+    let at-or-else = c .before .before .before in
+    let at-room-faults = at-or-else .before in
+    let at-esi-key-faults = at-room-faults .before .before in
+    let at-stamp-faults = at-esi-key-faults .before in
+    let at-party-faults = at-stamp-faults .before .before in
+    let at-form-faults = at-party-faults .before in
+    let at-holidays-in = at-form-faults .before .before .before in
+    let at-customer-of = at-holidays-in .before in
+    let h = lent-dates _ _ (at-holidays-in .holidays-in .ensures) in
+    esi-first _ _ _ _ (at-customer-of .customer-of .ensures) (c .or-else4 .ensures) (c .before .or-else3 .ensures)
+    (c .before .before .or-else2 .ensures) (at-or-else .or-else .ensures)
+    (at-form-faults .form-faults .ensures) (at-party-faults .party-faults .ensures) (at-stamp-faults .stamp-faults .ensures _ h)
+    (at-esi-key-faults .esi-key-faults .ensures) (at-room-faults .room-faults .ensures _ h)
 
 pub check-esi-spec : {M : Type 1} → statement M
 check-esi-spec =
     tie.close
     (tie.spec
-    customer-of-requires
-    holidays-in-requires
-    cast-n
-    form-faults-requires
-    party-faults-requires
+    (λ c κs. search needs)
+    (λ c κs. search needs)
+    (λ c. search needs)
+    (λ c κs. search needs)
+    (λ c κs. search needs)
     array-share-prefix-dates
     slice-aggregate-stamp-faults
-    stamp-faults-requires
-    esi-key-faults-requires
+    (λ c κs. search needs)
+    (λ c κs. search needs)
     array-share-prefix-dates-2
     slice-aggregate-room-faults
-    room-faults-requires
-    or-else-requires
-    or-else-requires-2
-    or-else-requires-3
-    or-else-requires-4
+    (λ c κs. search needs)
+    (λ c κs. search needs)
+    (λ c κs. search needs)
+    (λ c κs. search needs)
+    (λ c κs. search needs)
     returns)

@@ -1,16 +1,10 @@
 -- No characters always differ, and else the digests decide.
-use Rattle.customer.proofs.Chain.{turned}
 use mathlib.Core.Path.{refl}
 use Rattle.checks.specs.Checks.{digestDiffers}
 use borrow.Author.Needs.{needs}
+use Rattle.ground.proofs.Bools.{turned}
 use Rattle.checks.proofs.digest_differs.Statement.{statement}
 use Rattle.checks.proofs.digest_differs.Tie as tie
-
-enum-told : tie.Need-enum-told
-enum-told c = search needs
-
-enum-known-a : tie.Need-enum-known-a
-enum-known-a c = search needs
 
 returns : tie.Need-returns
 unfolding digestDiffers
@@ -21,4 +15,4 @@ unfolding digestDiffers
 returns-2 c = rw (c .before .a .given .1) (turned refl)
 
 pub digest-differs-spec : {M : Type 1} → statement M
-digest-differs-spec = tie.close (tie.spec enum-told enum-known-a returns returns-2)
+digest-differs-spec = tie.close (tie.spec (λ c. search needs) (λ c. search needs) returns returns-2)

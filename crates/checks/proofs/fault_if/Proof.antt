@@ -1,15 +1,16 @@
 -- The test decides.
 use Rattle.ground.specs.Choice.{pick}
+use Rattle.ground.specs.First.{firstThat}
 use Rattle.message.specs.Order.{firstFailing}
 use Rattle.checks.proofs.fault_if.Statement.{statement}
 use Rattle.checks.proofs.fault_if.Tie as tie
 
 returns : tie.Need-returns
-unfolding firstFailing pick
+unfolding firstFailing firstThat pick
 returns c = rw (c .if1 .taken)
 
 returns-2 : tie.Need-returns-2
-unfolding firstFailing pick
+unfolding firstFailing firstThat pick
 returns-2 c = rw (c .if1 .left)
 
 pub fault-if-spec : {M : Type 1} → statement M

@@ -4,32 +4,20 @@ use native.Mathlib.Omega.{arith}
 use lib.ListN.{length}
 use lib.Seq.{take-all, length-take-le}
 use Rattle.ground.specs.Lists.{same}
-use Rattle.customer.proofs.Chain.{turned}
+use Rattle.ground.proofs.Bools.{turned}
 use borrow.Author.Needs.{needs}
 use Rattle.checks.proofs.is_elsewhere.Statement.{statement}
 use Rattle.checks.proofs.is_elsewhere.Tie as tie
-
-receiver-requires : tie.Need-receiver-requires
-receiver-requires c κs = search needs
-
-array-share-prefix-receiver : tie.Need-array-share-prefix-receiver
-array-share-prefix-receiver c = search needs
 
 slice-aggregate-same-bytes : tie.Need-slice-aggregate-same-bytes
 slice-aggregate-same-bytes c =
     let n : length (c .before .receiver .result) ≡ 25 = search needs in
     sym (length-take-le _ (c .before .receiver .result) (omega arith))
 
-array-share-prefix-bank : tie.Need-array-share-prefix-bank
-array-share-prefix-bank c = search needs
-
 slice-aggregate-same-bytes-2 : tie.Need-slice-aggregate-same-bytes-2
 slice-aggregate-same-bytes-2 c =
     let k : length (c .before .before .before .args .t2) ≡ 25 = search needs in
     sym (length-take-le _ (c .before .before .before .args .t2) (omega arith))
-
-same-bytes-requires : tie.Need-same-bytes-requires
-same-bytes-requires c κs = search needs
 
 returns : tie.Need-returns
 returns c =
@@ -43,10 +31,10 @@ pub is-elsewhere-spec : {M : Type 1} → statement M
 is-elsewhere-spec =
     tie.close
     (tie.spec
-    receiver-requires
-    array-share-prefix-receiver
+    (λ c κs. search needs)
+    (λ c. search needs)
     slice-aggregate-same-bytes
-    array-share-prefix-bank
+    (λ c. search needs)
     slice-aggregate-same-bytes-2
-    same-bytes-requires
+    (λ c κs. search needs)
     returns)

@@ -3,125 +3,87 @@ use mathlib.Core.Path.{sym, ap, ap₂, _∙_}
 use Prim.Native.Nat.{ℕ}
 use mathlib.Core.List.{List}
 use Rattle.ground.specs.Choice.{either, fails}
+use Rattle.ground.proofs.Bools.{turned}
+use Rattle.calendar.specs.Dates.{dated}
+use Rattle.calendar.specs.declared.Date.{Date}
 use Rattle.keys.specs.Parity.{oddParity}
 use Rattle.changeover.specs.Held.{heldKey, goodFor}
 use Rattle.changeover.specs.declared.Key.{Key}
 use Rattle.acceptance.specs.Stamps.{onceUsed}
-use Rattle.customer.proofs.Chain.{turned}
 use Rattle.checks.specs.Checks.{isMissing, checksumDiffers, digestDiffers, keyChecks}
 use Rattle.checks.proofs.Order.{one, next}
 use borrow.Author.Needs.{needs}
 use Rattle.checks.proofs.key_faults.Statement.{statement}
 use Rattle.checks.proofs.key_faults.Tie as tie
 
-date-requires : tie.Need-date-requires
-date-requires c κs = search needs
-
-working-generation-requires : tie.Need-working-generation-requires
-working-generation-requires c κs = search needs
-
-held-requires : tie.Need-held-requires
-held-requires c κs = search needs
-
-key-or-0-requires : tie.Need-key-or-0-requires
-key-or-0-requires c κs = search needs
-
-transport-generation-requires : tie.Need-transport-generation-requires
-transport-generation-requires c κs = search needs
-
-is-key-refused-requires : tie.Need-is-key-refused-requires
-is-key-refused-requires c κs = search needs
-
-fault-if-requires : tie.Need-fault-if-requires
-fault-if-requires c κs = search needs
-
-is-good-for-requires : tie.Need-is-good-for-requires
-is-good-for-requires c κs = search needs
-
-fault-if-requires-2 : tie.Need-fault-if-requires-2
-fault-if-requires-2 c κs = search needs
-
-is-once-used-requires : tie.Need-is-once-used-requires
-is-once-used-requires c κs = search needs
-
-fault-if-requires-3 : tie.Need-fault-if-requires-3
-fault-if-requires-3 c κs = search needs
-
-has-odd-parity-requires : tie.Need-has-odd-parity-requires
-has-odd-parity-requires c κs = search needs
-
-fault-if-requires-4 : tie.Need-fault-if-requires-4
-fault-if-requires-4 c κs = search needs
-
-digest-field-requires : tie.Need-digest-field-requires
-digest-field-requires c κs = search needs
-
-digest-differs-requires : tie.Need-digest-differs-requires
-digest-differs-requires c κs = search needs
-
-fault-if-requires-5 : tie.Need-fault-if-requires-5
-fault-if-requires-5 c κs = search needs
-
-checksum-differs-requires : tie.Need-checksum-differs-requires
-checksum-differs-requires c κs = search needs
-
-fault-if-requires-6 : tie.Need-fault-if-requires-6
-fault-if-requires-6 c κs = search needs
-
-or-else-requires : tie.Need-or-else-requires
-or-else-requires c κs = search needs
-
-or-else-requires-2 : tie.Need-or-else-requires-2
-or-else-requires-2 c κs = search needs
-
-or-else-requires-3 : tie.Need-or-else-requires-3
-or-else-requires-3 c κs = search needs
-
-or-else-requires-4 : tie.Need-or-else-requires-4
-or-else-requires-4 c κs = search needs
-
-or-else-requires-5 : tie.Need-or-else-requires-5
-or-else-requires-5 c κs = search needs
-
 returns : tie.Need-returns
 unfolding keyChecks
-returns c = λ t e.
-    let a = c .before .before .before .before .before .before .before .before .before .before .before .before .before .before .before .before .before .before .before .before .before .before .before .before .before .before .before .before .before .before .args in
-    let d = c .before .before .before .before .before .before .before .before .before .before .before .before .before .before .before .before .before .before .before .before .before .before .before .before .date .ensures in
-    let g = c .before .before .before .before .before .before .before .before .before .before .before .before .before .before .before .before .before .before .before .before .before .working-generation .ensures in
-    let n = c .before .before .before .before .before .before .before .before .before .before .before .before .before .before .before .before .before .before .before .key-or-0 .ensures in
-    next _ _ _ _ (c .or-else5 .ensures) (c .before .before .before .before .before .before .before .before .before .before .before .before .before .before .before .before .fault-if .ensures) (c .before .before .before .before .before .before .before .before .before .before .before .before .before .before .before .before .before .is-key-refused .ensures ∙ ap₂ (λ (x y : ℕ). either (isMissing (a .f .once)) (fails (goodFor (a .c .transport) x y))) (c .before .before .before .before .before .before .before .before .before .before .before .before .before .before .before .before .before .before .transport-generation .ensures) d)
-    (next _ _ _ _ (c .before .or-else4 .ensures) (c .before .before .before .before .before .before .before .before .before .before .before .before .before .before .fault-if2 .ensures) (turned (c .before .before .before .before .before .before .before .before .before .before .before .before .before .before .before .is-good-for .ensures ∙ ap₂ (goodFor (a .c .working)) g d))
-    (next _ _ _ _ (c .before .before .or-else3 .ensures) (c .before .before .before .before .before .before .before .before .before .before .before .before .fault-if3 .ensures) (c .before .before .before .before .before .before .before .before .before .before .before .before .before .is-once-used .ensures ∙ ap₂ (λ (h : List ℕ) (k : ℕ). onceUsed h (a .today .yymmdd) (a .c) k) (sym e) n)
-    (next _ _ _ _ (c .before .before .before .or-else2 .ensures) (c .before .before .before .before .before .before .before .before .before .before .fault-if4 .ensures) (turned (c .before .before .before .before .before .before .before .before .before .before .before .has-odd-parity .ensures ∙ ap oddParity n))
-    (next _ _ _ _ (c .before .before .before .before .or-else .ensures) (c .before .before .before .before .before .before .before .fault-if5 .ensures) (c .before .before .before .before .before .before .before .before .digest-differs .ensures ∙ ap (digestDiffers (a .f .digest)) (c .before .before .before .before .before .before .before .before .before .digest-field .ensures))
-    (one _ _ _ (c .before .before .before .before .before .fault-if6 .ensures) (c .before .before .before .before .before .before .checksum-differs .ensures ∙ ap (λ (k : Key). checksumDiffers k (a .f .var .text)) (c .before .before .before .before .before .before .before .before .before .before .before .before .before .before .before .before .before .before .before .before .held .ensures ∙ ap (heldKey (a .c .working)) g)))))))
+returns c =
+    let at-or-else2 = c .before .before .before in
+    let at-or-else = at-or-else2 .before in
+    let at-fault-if6 = at-or-else .before in
+    let at-checksum-differs = at-fault-if6 .before in
+    let at-fault-if5 = at-checksum-differs .before in
+    let at-digest-differs = at-fault-if5 .before in
+    let at-digest-field = at-digest-differs .before in
+    let at-fault-if4 = at-digest-field .before in
+    let at-has-odd-parity = at-fault-if4 .before in
+    let at-fault-if3 = at-has-odd-parity .before in
+    let at-is-once-used = at-fault-if3 .before in
+    let at-fault-if2 = at-is-once-used .before in
+    let at-is-good-for = at-fault-if2 .before in
+    let at-fault-if = at-is-good-for .before in
+    let at-is-key-refused = at-fault-if .before in
+    let at-transport-generation = at-is-key-refused .before in
+    let at-key-or-0 = at-transport-generation .before in
+    let at-held = at-key-or-0 .before in
+    let at-working-generation = at-held .before in
+    let at-date = at-working-generation .before .before .before in
+    let at-args = at-date .before .before .before .before .before .before in
+    λ t e.
+    let a = at-args .args in
+    let d = ap dated (at-date .date .ensures) in
+    let g = at-working-generation .working-generation .ensures in
+    let n = at-key-or-0 .key-or-0 .ensures in
+    next _ _ _ _ (c .or-else5 .ensures) (at-fault-if .fault-if .ensures) (at-is-key-refused .is-key-refused .ensures
+    ∙ ap₂ (λ (x : ℕ) (y : Date). either (isMissing (a .f .once)) (fails (goodFor (a .c .transport) x y)))
+    (at-transport-generation .transport-generation .ensures) d)
+    (next _ _ _ _ (c .before .or-else4 .ensures) (at-fault-if2 .fault-if2 .ensures)
+    (turned (at-is-good-for .is-good-for .ensures ∙ ap₂ (goodFor (a .c .working)) g d))
+    (next _ _ _ _ (c .before .before .or-else3 .ensures) (at-fault-if3 .fault-if3 .ensures) (at-is-once-used .is-once-used .ensures
+    ∙ ap₂ (λ (h : List ℕ) (k : ℕ). onceUsed h (a .today) (a .c) k) (sym e) n)
+    (next _ _ _ _ (at-or-else2 .or-else2 .ensures) (at-fault-if4 .fault-if4 .ensures)
+    (turned (at-has-odd-parity .has-odd-parity .ensures ∙ ap oddParity n))
+    (next _ _ _ _ (at-or-else .or-else .ensures) (at-fault-if5 .fault-if5 .ensures) (at-digest-differs .digest-differs .ensures
+    ∙ ap (digestDiffers (a .f .digest)) (at-digest-field .digest-field .ensures))
+    (one _ _ _ (at-fault-if6 .fault-if6 .ensures) (at-checksum-differs .checksum-differs .ensures
+    ∙ ap (λ (k : Key). checksumDiffers k (a .f .var .text)) (at-held .held .ensures ∙ ap (heldKey (a .c .working)) g)))))))
 
 pub key-faults-spec : {M : Type 1} → statement M
 key-faults-spec =
     tie.close
     (tie.spec
-    date-requires
-    working-generation-requires
-    held-requires
-    key-or-0-requires
-    transport-generation-requires
-    is-key-refused-requires
-    fault-if-requires
-    is-good-for-requires
-    fault-if-requires-2
-    is-once-used-requires
-    fault-if-requires-3
-    has-odd-parity-requires
-    fault-if-requires-4
-    digest-field-requires
-    digest-differs-requires
-    fault-if-requires-5
-    checksum-differs-requires
-    fault-if-requires-6
-    or-else-requires
-    or-else-requires-2
-    or-else-requires-3
-    or-else-requires-4
-    or-else-requires-5
+    (λ c κs. search needs)
+    (λ c κs. search needs)
+    (λ c κs. search needs)
+    (λ c κs. search needs)
+    (λ c κs. search needs)
+    (λ c κs. search needs)
+    (λ c κs. search needs)
+    (λ c κs. search needs)
+    (λ c κs. search needs)
+    (λ c κs. search needs)
+    (λ c κs. search needs)
+    (λ c κs. search needs)
+    (λ c κs. search needs)
+    (λ c κs. search needs)
+    (λ c κs. search needs)
+    (λ c κs. search needs)
+    (λ c κs. search needs)
+    (λ c κs. search needs)
+    (λ c κs. search needs)
+    (λ c κs. search needs)
+    (λ c κs. search needs)
+    (λ c κs. search needs)
+    (λ c κs. search needs)
     returns)

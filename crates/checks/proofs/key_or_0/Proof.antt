@@ -4,12 +4,6 @@ use borrow.Author.Needs.{needs}
 use Rattle.checks.proofs.key_or_0.Statement.{statement}
 use Rattle.checks.proofs.key_or_0.Tie as tie
 
-enum-told : tie.Need-enum-told
-enum-told c = search needs
-
-enum-known-k : tie.Need-enum-known-k
-enum-known-k c = search needs
-
 returns : tie.Need-returns
 unfolding keyOr0
 returns c = rw (c .enum-told .given .1)
@@ -19,4 +13,4 @@ unfolding keyOr0
 returns-2 c = rw (c .before .k .given .1)
 
 pub key-or-0-spec : {M : Type 1} → statement M
-key-or-0-spec = tie.close (tie.spec enum-told enum-known-k returns returns-2)
+key-or-0-spec = tie.close (tie.spec (λ c. search needs) (λ c. search needs) returns returns-2)

@@ -5,12 +5,6 @@ use borrow.Author.Needs.{needs}
 use Rattle.checks.proofs.or_else.Statement.{statement}
 use Rattle.checks.proofs.or_else.Tie as tie
 
-enum-told : tie.Need-enum-told
-enum-told c = search needs
-
-enum-known-a : tie.Need-enum-known-a
-enum-known-a c = search needs
-
 returns : tie.Need-returns
 returns c xs ys p q = q ∙ sym (first-sound xs ys (sym p ∙ c .enum-told .given .1))
 
@@ -18,4 +12,4 @@ returns-2 : tie.Need-returns-2
 returns-2 c xs ys p q = sym (first-found xs ys _ _ _ (sym p ∙ c .before .a .given .1))
 
 pub or-else-spec : {M : Type 1} → statement M
-or-else-spec = tie.close (tie.spec enum-told enum-known-a returns returns-2)
+or-else-spec = tie.close (tie.spec (λ c. search needs) (λ c. search needs) returns returns-2)

@@ -8,112 +8,63 @@ use borrow.Author.Needs.{needs}
 use Rattle.checks.proofs.pair_faults.Statement.{statement}
 use Rattle.checks.proofs.pair_faults.Tie as tie
 
-differs-requires : tie.Need-differs-requires
-differs-requires c κs = search needs
-
-fault-if-requires : tie.Need-fault-if-requires
-fault-if-requires c κs = search needs
-
-differs-requires-2 : tie.Need-differs-requires-2
-differs-requires-2 c κs = search needs
-
-fault-if-requires-2 : tie.Need-fault-if-requires-2
-fault-if-requires-2 c κs = search needs
-
-differs-requires-3 : tie.Need-differs-requires-3
-differs-requires-3 c κs = search needs
-
-fault-if-requires-3 : tie.Need-fault-if-requires-3
-fault-if-requires-3 c κs = search needs
-
-differs-requires-4 : tie.Need-differs-requires-4
-differs-requires-4 c κs = search needs
-
-fault-if-requires-4 : tie.Need-fault-if-requires-4
-fault-if-requires-4 c κs = search needs
-
-differs-requires-5 : tie.Need-differs-requires-5
-differs-requires-5 c κs = search needs
-
-fault-if-requires-5 : tie.Need-fault-if-requires-5
-fault-if-requires-5 c κs = search needs
-
-differs-requires-6 : tie.Need-differs-requires-6
-differs-requires-6 c κs = search needs
-
-fault-if-requires-6 : tie.Need-fault-if-requires-6
-fault-if-requires-6 c κs = search needs
-
-differs-requires-7 : tie.Need-differs-requires-7
-differs-requires-7 c κs = search needs
-
-fault-if-requires-7 : tie.Need-fault-if-requires-7
-fault-if-requires-7 c κs = search needs
-
-differs-requires-8 : tie.Need-differs-requires-8
-differs-requires-8 c κs = search needs
-
-fault-if-requires-8 : tie.Need-fault-if-requires-8
-fault-if-requires-8 c κs = search needs
-
-or-else-requires : tie.Need-or-else-requires
-or-else-requires c κs = search needs
-
-or-else-requires-2 : tie.Need-or-else-requires-2
-or-else-requires-2 c κs = search needs
-
-or-else-requires-3 : tie.Need-or-else-requires-3
-or-else-requires-3 c κs = search needs
-
-or-else-requires-4 : tie.Need-or-else-requires-4
-or-else-requires-4 c κs = search needs
-
-or-else-requires-5 : tie.Need-or-else-requires-5
-or-else-requires-5 c κs = search needs
-
-or-else-requires-6 : tie.Need-or-else-requires-6
-or-else-requires-6 c κs = search needs
-
-or-else-requires-7 : tie.Need-or-else-requires-7
-or-else-requires-7 c κs = search needs
-
 returns : tie.Need-returns
 unfolding pairChecks fieldText receiverOf senderOf stampTextOf offsetIn widthIn pick
 returns c =
-    next _ _ _ _ (c .or-else7 .ensures) (c .before .before .before .before .before .before .before .before .before .before .before .before .before .before .before .before .before .before .before .before .before .fault-if .ensures) (c .before .before .before .before .before .before .before .before .before .before .before .before .before .before .before .before .before .before .before .before .before .before .differs .ensures)
-    (next _ _ _ _ (c .before .or-else6 .ensures) (c .before .before .before .before .before .before .before .before .before .before .before .before .before .before .before .before .before .before .before .fault-if2 .ensures) (c .before .before .before .before .before .before .before .before .before .before .before .before .before .before .before .before .before .before .before .before .differs2 .ensures)
-    (next _ _ _ _ (c .before .before .or-else5 .ensures) (c .before .before .before .before .before .before .before .before .before .before .before .before .before .before .before .before .before .fault-if3 .ensures) (c .before .before .before .before .before .before .before .before .before .before .before .before .before .before .before .before .before .before .differs3 .ensures)
-    (next _ _ _ _ (c .before .before .before .or-else4 .ensures) (c .before .before .before .before .before .before .before .before .before .before .before .before .before .before .before .fault-if4 .ensures) (c .before .before .before .before .before .before .before .before .before .before .before .before .before .before .before .before .differs4 .ensures)
-    (next _ _ _ _ (c .before .before .before .before .or-else3 .ensures) (c .before .before .before .before .before .before .before .before .before .before .before .before .before .fault-if5 .ensures) (c .before .before .before .before .before .before .before .before .before .before .before .before .before .before .differs5 .ensures)
-    (next _ _ _ _ (c .before .before .before .before .before .or-else2 .ensures) (c .before .before .before .before .before .before .before .before .before .before .before .fault-if6 .ensures) (c .before .before .before .before .before .before .before .before .before .before .before .before .differs6 .ensures)
-    (next _ _ _ _ (c .before .before .before .before .before .before .or-else .ensures) (c .before .before .before .before .before .before .before .before .before .fault-if7 .ensures) (c .before .before .before .before .before .before .before .before .before .before .differs7 .ensures)
-    (one _ _ _ (c .before .before .before .before .before .before .before .fault-if8 .ensures) (c .before .before .before .before .before .before .before .before .differs8 .ensures))))))))
+    let at-or-else4 = c .before .before .before in
+    let at-or-else3 = at-or-else4 .before in
+    let at-or-else2 = at-or-else3 .before in
+    let at-or-else = at-or-else2 .before in
+    let at-fault-if8 = at-or-else .before in
+    let at-differs8 = at-fault-if8 .before in
+    let at-fault-if7 = at-differs8 .before in
+    let at-differs7 = at-fault-if7 .before in
+    let at-fault-if6 = at-differs7 .before in
+    let at-differs6 = at-fault-if6 .before in
+    let at-fault-if5 = at-differs6 .before in
+    let at-differs5 = at-fault-if5 .before in
+    let at-fault-if4 = at-differs5 .before in
+    let at-differs4 = at-fault-if4 .before in
+    let at-fault-if3 = at-differs4 .before in
+    let at-differs3 = at-fault-if3 .before in
+    let at-fault-if2 = at-differs3 .before in
+    let at-differs2 = at-fault-if2 .before in
+    let at-fault-if = at-differs2 .before in
+    let at-differs = at-fault-if .before in
+    next _ _ _ _ (c .or-else7 .ensures) (at-fault-if .fault-if .ensures) (at-differs .differs .ensures)
+    (next _ _ _ _ (c .before .or-else6 .ensures) (at-fault-if2 .fault-if2 .ensures) (at-differs2 .differs2 .ensures)
+    (next _ _ _ _ (c .before .before .or-else5 .ensures) (at-fault-if3 .fault-if3 .ensures) (at-differs3 .differs3 .ensures)
+    (next _ _ _ _ (at-or-else4 .or-else4 .ensures) (at-fault-if4 .fault-if4 .ensures) (at-differs4 .differs4 .ensures)
+    (next _ _ _ _ (at-or-else3 .or-else3 .ensures) (at-fault-if5 .fault-if5 .ensures) (at-differs5 .differs5 .ensures)
+    (next _ _ _ _ (at-or-else2 .or-else2 .ensures) (at-fault-if6 .fault-if6 .ensures) (at-differs6 .differs6 .ensures)
+    (next _ _ _ _ (at-or-else .or-else .ensures) (at-fault-if7 .fault-if7 .ensures) (at-differs7 .differs7 .ensures)
+    (one _ _ _ (at-fault-if8 .fault-if8 .ensures) (at-differs8 .differs8 .ensures))))))))
 
 pub pair-faults-spec : {M : Type 1} → statement M
 pair-faults-spec =
     tie.close
     (tie.spec
-    differs-requires
-    fault-if-requires
-    differs-requires-2
-    fault-if-requires-2
-    differs-requires-3
-    fault-if-requires-3
-    differs-requires-4
-    fault-if-requires-4
-    differs-requires-5
-    fault-if-requires-5
-    differs-requires-6
-    fault-if-requires-6
-    differs-requires-7
-    fault-if-requires-7
-    differs-requires-8
-    fault-if-requires-8
-    or-else-requires
-    or-else-requires-2
-    or-else-requires-3
-    or-else-requires-4
-    or-else-requires-5
-    or-else-requires-6
-    or-else-requires-7
+    (λ c κs. search needs)
+    (λ c κs. search needs)
+    (λ c κs. search needs)
+    (λ c κs. search needs)
+    (λ c κs. search needs)
+    (λ c κs. search needs)
+    (λ c κs. search needs)
+    (λ c κs. search needs)
+    (λ c κs. search needs)
+    (λ c κs. search needs)
+    (λ c κs. search needs)
+    (λ c κs. search needs)
+    (λ c κs. search needs)
+    (λ c κs. search needs)
+    (λ c κs. search needs)
+    (λ c κs. search needs)
+    (λ c κs. search needs)
+    (λ c κs. search needs)
+    (λ c κs. search needs)
+    (λ c κs. search needs)
+    (λ c κs. search needs)
+    (λ c κs. search needs)
+    (λ c κs. search needs)
     returns)

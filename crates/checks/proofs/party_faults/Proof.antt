@@ -3,10 +3,10 @@ use mathlib.Core.Path.{ap, ap₂, _∙_}
 use lib.Dec.{ltb}
 use Rattle.ground.specs.Choice.{fails}
 use Rattle.ground.specs.Lists.{same}
+use Rattle.ground.proofs.Bools.{turned}
 use Rattle.message.specs.Fields.{receiverOf}
 use Rattle.customer.specs.declared.Customer.{Customer}
 use Rattle.customer.specs.declared.Settings.{Settings}
-use Rattle.customer.proofs.Chain.{turned}
 use Rattle.table.specs.Table.{isUnknown, placeOf}
 use Rattle.checks.specs.Checks.{partyChecks}
 use Rattle.checks.proofs.Order.{one, next}
@@ -14,79 +14,49 @@ use borrow.Author.Needs.{needs}
 use Rattle.checks.proofs.party_faults.Statement.{statement}
 use Rattle.checks.proofs.party_faults.Tie as tie
 
-settings-requires : tie.Need-settings-requires
-settings-requires c κs = search needs
-
-sender-requires : tie.Need-sender-requires
-sender-requires c κs = search needs
-
-find-requires : tie.Need-find-requires
-find-requires c κs = search needs
-
-customer-of-requires : tie.Need-customer-of-requires
-customer-of-requires c κs = search needs
-
-version-requires : tie.Need-version-requires
-version-requires c κs = search needs
-
-fault-if-requires : tie.Need-fault-if-requires
-fault-if-requires c κs = search needs
-
-is-elsewhere-requires : tie.Need-is-elsewhere-requires
-is-elsewhere-requires c κs = search needs
-
-fault-if-requires-2 : tie.Need-fault-if-requires-2
-fault-if-requires-2 c κs = search needs
-
-is-no-place-requires : tie.Need-is-no-place-requires
-is-no-place-requires c κs = search needs
-
-fault-if-requires-3 : tie.Need-fault-if-requires-3
-fault-if-requires-3 c κs = search needs
-
-fault-if-requires-4 : tie.Need-fault-if-requires-4
-fault-if-requires-4 c κs = search needs
-
-or-else-requires : tie.Need-or-else-requires
-or-else-requires c κs = search needs
-
-or-else-requires-2 : tie.Need-or-else-requires-2
-or-else-requires-2 c κs = search needs
-
-or-else-requires-3 : tie.Need-or-else-requires-3
-or-else-requires-3 c κs = search needs
-
 returns : tie.Need-returns
 unfolding partyChecks
 returns c =
-    let s = c .before .before .before .before .before .before .before .before .before .before .before .before .before .before .before .before .settings .ensures in
-    let found = c .before .before .before .before .before .before .before .before .before .before .before .before .before .find .ensures ∙ ap (placeOf _) (c .before .before .before .before .before .before .before .before .before .before .before .before .before .before .sender .ensures) in
-    let m = c .before .before .before .before .before .before .before .before .before .before .before .before .before .before .before .before .before .before .args .m in
-    let version = c .before .before .before .before .before .before .before .before .before .before .before .version .ensures in
-    let customer = c .before .before .before .before .before .before .before .before .before .before .before .before .customer-of .ensures in
-    next _ _ _ _ (c .or-else3 .ensures) (c .before .before .before .before .before .before .before .before .before .fault-if .ensures) (ap₂ ltb version (ap (λ (x : Settings). x .floor) s))
-    (next _ _ _ _ (c .before .or-else2 .ensures) (c .before .before .before .before .before .before .before .fault-if2 .ensures)
-    (c .before .before .before .before .before .before .before .before .is-elsewhere .ensures ∙ ap (λ (x : Settings). fails (same (receiverOf m) (x .bank))) s)
-    (next _ _ _ _ (c .before .before .or-else .ensures) (c .before .before .before .before .before .fault-if3 .ensures)
-    (c .before .before .before .before .before .before .is-no-place .ensures ∙ ap isUnknown found)
-    (one _ _ _ (c .before .before .before .fault-if4 .ensures) (turned (ap (λ (x : Customer). x .agreed) customer)))))
+    let at-fault-if4 = c .before .before .before in
+    let at-fault-if3 = at-fault-if4 .before .before in
+    let at-is-no-place = at-fault-if3 .before in
+    let at-fault-if2 = at-is-no-place .before in
+    let at-is-elsewhere = at-fault-if2 .before in
+    let at-fault-if = at-is-elsewhere .before in
+    let at-version = at-fault-if .before .before in
+    let at-customer-of = at-version .before in
+    let at-find = at-customer-of .before in
+    let at-sender = at-find .before in
+    let at-settings = at-sender .before .before in
+    let at-args = at-settings .before .before in
+    let s = at-settings .settings .ensures in
+    let found = at-find .find .ensures ∙ ap (placeOf _) (at-sender .sender .ensures) in
+    let m = at-args .args .m in
+    let version = at-version .version .ensures in
+    let customer = at-customer-of .customer-of .ensures in
+    next _ _ _ _ (c .or-else3 .ensures) (at-fault-if .fault-if .ensures) (ap₂ ltb version (ap (λ (x : Settings). x .floor) s))
+    (next _ _ _ _ (c .before .or-else2 .ensures) (at-fault-if2 .fault-if2 .ensures)
+    (at-is-elsewhere .is-elsewhere .ensures ∙ ap (λ (x : Settings). fails (same (receiverOf m) (x .bank))) s)
+    (next _ _ _ _ (c .before .before .or-else .ensures) (at-fault-if3 .fault-if3 .ensures)
+    (at-is-no-place .is-no-place .ensures ∙ ap isUnknown found)
+    (one _ _ _ (at-fault-if4 .fault-if4 .ensures) (turned (ap (λ (x : Customer). x .agreed) customer)))))
 
 pub party-faults-spec : {M : Type 1} → statement M
 party-faults-spec =
     tie.close
     (tie.spec
-    settings-requires
-    sender-requires
-    find-requires
-    customer-of-requires
-    version-requires
-    fault-if-requires
-    is-elsewhere-requires
-    fault-if-requires-2
-    is-no-place-requires
-    fault-if-requires-3
-    fault-if-requires-4
-    or-else-requires
-    or-else-requires-2
-    or-else-requires-3
+    (λ c κs. search needs)
+    (λ c κs. search needs)
+    (λ c κs. search needs)
+    (λ c κs. search needs)
+    (λ c κs. search needs)
+    (λ c κs. search needs)
+    (λ c κs. search needs)
+    (λ c κs. search needs)
+    (λ c κs. search needs)
+    (λ c κs. search needs)
+    (λ c κs. search needs)
+    (λ c κs. search needs)
+    (λ c κs. search needs)
+    (λ c κs. search needs)
     returns)

@@ -11,17 +11,12 @@ use borrow.Author.Needs.{needs}
 use Rattle.checks.proofs.room_faults.Statement.{statement}
 use Rattle.checks.proofs.room_faults.Tie as tie
 
-live-count-requires : tie.Need-live-count-requires
-live-count-requires c κs = search needs
-
-fault-if-requires : tie.Need-fault-if-requires
-fault-if-requires c κs = search needs
-
 returns : tie.Need-returns
 unfolding roomChecks
 returns c = λ t e.
     let a = c .before .before .before .args in
-    one _ _ _ (c .fault-if .ensures) (ap (leb 64) (c .before .live-count .ensures ∙ ap (λ (h : List ℕ). length (liveStamps h (a .today .yymmdd) (a .c))) (sym e)))
+    one _ _ _ (c .fault-if .ensures)
+    (ap (leb 64) (c .before .live-count .ensures ∙ ap (λ (h : List ℕ). length (liveStamps h (a .today) (a .c))) (sym e)))
 
 pub room-faults-spec : {M : Type 1} → statement M
-room-faults-spec = tie.close (tie.spec live-count-requires fault-if-requires returns)
+room-faults-spec = tie.close (tie.spec (λ c κs. search needs) (λ c κs. search needs) returns)

@@ -13,29 +13,8 @@ Inv-loop path ended₀ i₀ ended i = (i ≤ length path) × (4096 ≡ length en
 abbrev μ-loop : tie.MeasureT-loop
 μ-loop path ended₀ i₀ ended i = length path - i
 
-buffer-requires : tie.Need-buffer-requires Inv-loop μ-loop
-buffer-requires c κs = tt
-
-loop-holds : tie.Need-loop-holds Inv-loop μ-loop
-loop-holds c = omega arith
-
-shared-slice-read-ended : tie.Need-shared-slice-read-ended Inv-loop μ-loop
-shared-slice-read-ended c = omega arith
-
-array-write-ended : tie.Need-array-write-ended Inv-loop μ-loop
-array-write-ended c = omega arith
-
-add-i : tie.Need-add-i Inv-loop μ-loop
-add-i c = omega arith
-
-loop-less : tie.Need-loop-less Inv-loop μ-loop
-loop-less c = omega arith
-
 loop-again : tie.Need-loop-again Inv-loop μ-loop
 loop-again c = (omega arith, simp length-set (c .before .before .before .loop .inv .1))
-
-array-write-ended-2 : tie.Need-array-write-ended-2 Inv-loop μ-loop
-array-write-ended-2 c = omega arith
 
 returns : tie.Need-returns Inv-loop μ-loop
 returns c = getD-set-same (c .before .loop .ended) 4095 0 1 (omega arith)
@@ -46,12 +25,12 @@ ended-spec =
     (tie.spec
     Inv-loop
     μ-loop
-    buffer-requires
-    loop-holds
-    shared-slice-read-ended
-    array-write-ended
-    add-i
-    loop-less
+    (λ c κs. tt)
+    (λ c. omega arith)
+    (λ c. omega arith)
+    (λ c. omega arith)
+    (λ c. omega arith)
+    (λ c. omega arith)
     loop-again
-    array-write-ended-2
+    (λ c. omega arith)
     returns)

@@ -1,8 +1,8 @@
 -- Each test that fails makes the whole fail, and the last one decides.
 use borrow.Author.Tests.{lt-ltb, le-ltb}
-use Rattle.customer.proofs.Chain.{stop, later, past, refused, passed}
 use Rattle.customer.specs.Customer.{realStamp}
 use borrow.Author.Needs.{needs}
+use Rattle.ground.proofs.Bools.{later, passed, past, refused, stop}
 use Rattle.customer.proofs.is_real_stamp.Statement.{statement}
 use Rattle.customer.proofs.is_real_stamp.Tie as tie
 
@@ -10,21 +10,9 @@ returns : tie.Need-returns
 unfolding realStamp
 returns c = stop _ _ (le-ltb _ _ (c .if1 .taken))
 
-cast-is-real-time : tie.Need-cast-is-real-time
-cast-is-real-time c = search needs
-
-is-real-requires : tie.Need-is-real-requires
-is-real-requires c κs = search needs
-
 returns-2 : tie.Need-returns-2
 unfolding realStamp
 returns-2 c = later _ _ (stop _ _ (refused (c .before .is-real .ensures) (c .if2 .taken)))
-
-cast-is-real-time-2 : tie.Need-cast-is-real-time-2
-cast-is-real-time-2 c = search needs
-
-is-real-time-requires : tie.Need-is-real-time-requires
-is-real-time-requires c κs = search needs
 
 returns-3 : tie.Need-returns-3
 unfolding realStamp
@@ -37,9 +25,9 @@ is-real-stamp-spec =
     tie.close
     (tie.spec
     returns
-    cast-is-real-time
-    is-real-requires
+    (λ c. search needs)
+    (λ c κs. search needs)
     returns-2
-    cast-is-real-time-2
-    is-real-time-requires
+    (λ c. search needs)
+    (λ c κs. search needs)
     returns-3)

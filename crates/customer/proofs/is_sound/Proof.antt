@@ -1,17 +1,11 @@
 -- Each test that fails makes the whole fail, and the last one decides.
 use borrow.Author.Tests.{lt-ltb, le-ltb, le-leb, lt-leb}
 use Rattle.ground.proofs.Choices.{between-in, between-below, between-above}
-use Rattle.customer.proofs.Chain.{stop, later, past, refused, passed}
+use Rattle.ground.proofs.Bools.{later, passed, past, refused, stop}
 use Rattle.customer.specs.Customer.{soundCustomer}
 use borrow.Author.Needs.{needs}
 use Rattle.customer.proofs.is_sound.Statement.{statement}
 use Rattle.customer.proofs.is_sound.Tie as tie
-
-slice-aggregate-is-sound-who : tie.Need-slice-aggregate-is-sound-who
-slice-aggregate-is-sound-who c = search needs
-
-is-sound-who-requires : tie.Need-is-sound-who-requires
-is-sound-who-requires c κs = search needs
 
 returns : tie.Need-returns
 unfolding soundCustomer
@@ -29,15 +23,9 @@ returns-4 : tie.Need-returns-4
 unfolding soundCustomer
 returns-4 c = later _ _ (later _ _ (stop _ _ (between-above 1 60 _ (c .if4 .taken))))
 
-is-sound-keys-requires : tie.Need-is-sound-keys-requires
-is-sound-keys-requires c κs = search needs
-
 returns-5 : tie.Need-returns-5
 unfolding soundCustomer
 returns-5 c = later _ _ (later _ _ (later _ _ (stop _ _ (refused (c .before .is-sound-keys .ensures) (c .if5 .taken)))))
-
-is-sound-keys-requires-2 : tie.Need-is-sound-keys-requires-2
-is-sound-keys-requires-2 c κs = search needs
 
 returns-6 : tie.Need-returns-6
 unfolding soundCustomer
@@ -46,9 +34,6 @@ returns-6 c = later _ _ (later _ _ (later _ _ (later _ _ (stop _ _ (refused (c .
 returns-7 : tie.Need-returns-7
 unfolding soundCustomer
 returns-7 c = later _ _ (later _ _ (later _ _ (later _ _ (later _ _ (stop _ _ (lt-leb _ 64 (c .if7 .taken)))))))
-
-is-sound-stamps-requires : tie.Need-is-sound-stamps-requires
-is-sound-stamps-requires c κs = search needs
 
 returns-8 : tie.Need-returns-8
 unfolding soundCustomer
@@ -71,16 +56,16 @@ pub is-sound-spec : {M : Type 1} → statement M
 is-sound-spec =
     tie.close
     (tie.spec
-    slice-aggregate-is-sound-who
-    is-sound-who-requires
+    (λ c. search needs)
+    (λ c κs. search needs)
     returns
     returns-2
     returns-3
     returns-4
-    is-sound-keys-requires
+    (λ c κs. search needs)
     returns-5
-    is-sound-keys-requires-2
+    (λ c κs. search needs)
     returns-6
     returns-7
-    is-sound-stamps-requires
+    (λ c κs. search needs)
     returns-8)

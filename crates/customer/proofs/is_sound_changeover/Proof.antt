@@ -1,9 +1,9 @@
 -- Each test that fails makes the whole fail, and the last one decides.
 use mathlib.Core.Path.{sym, _∙_}
 use borrow.Author.Tests.{le-leb, lt-leb, eq-eqb, ne-eqb}
-use Rattle.customer.proofs.Chain.{stop, later, past, refused, passed, turned}
 use Rattle.customer.specs.Customer.{soundPrevious}
 use borrow.Author.Needs.{needs}
+use Rattle.ground.proofs.Bools.{later, passed, past, refused, stop, turned}
 use Rattle.customer.proofs.is_sound_changeover.Statement.{statement}
 use Rattle.customer.proofs.is_sound_changeover.Tie as tie
 
@@ -11,36 +11,21 @@ returns : tie.Need-returns
 unfolding soundPrevious
 returns c = stop _ _ (lt-leb _ 9 (c .if1 .taken))
 
-next-generation-requires : tie.Need-next-generation-requires
-next-generation-requires c κs = search needs
-
 returns-2 : tie.Need-returns-2
 unfolding soundPrevious
 returns-2 c = later _ _ (stop _ _ (ne-eqb _ _ (λ e. c .if2 .taken (c .before .next-generation .ensures ∙ e))))
-
-has-odd-parity-requires : tie.Need-has-odd-parity-requires
-has-odd-parity-requires c κs = search needs
 
 returns-3 : tie.Need-returns-3
 unfolding soundPrevious
 returns-3 c = later _ _ (later _ _ (stop _ _ (refused (c .before .has-odd-parity .ensures) (c .if3 .taken))))
 
-is-real-requires : tie.Need-is-real-requires
-is-real-requires c κs = search needs
-
 returns-4 : tie.Need-returns-4
 unfolding soundPrevious
 returns-4 c = later _ _ (later _ _ (later _ _ (stop _ _ (refused (c .before .is-real .ensures) (c .if4 .taken)))))
 
-is-real-requires-2 : tie.Need-is-real-requires-2
-is-real-requires-2 c κs = search needs
-
 returns-5 : tie.Need-returns-5
 unfolding soundPrevious
 returns-5 c = later _ _ (later _ _ (later _ _ (later _ _ (stop _ _ (refused (c .before .is-real2 .ensures) (c .if5 .taken))))))
-
-before-requires : tie.Need-before-requires
-before-requires c κs = search needs
 
 returns-6 : tie.Need-returns-6
 unfolding soundPrevious
@@ -61,13 +46,13 @@ is-sound-changeover-spec =
     tie.close
     (tie.spec
     returns
-    next-generation-requires
+    (λ c κs. search needs)
     returns-2
-    has-odd-parity-requires
+    (λ c κs. search needs)
     returns-3
-    is-real-requires
+    (λ c κs. search needs)
     returns-4
-    is-real-requires-2
+    (λ c κs. search needs)
     returns-5
-    before-requires
+    (λ c κs. search needs)
     returns-6)

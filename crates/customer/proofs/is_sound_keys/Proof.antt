@@ -1,8 +1,8 @@
 -- Each test that fails makes the whole fail, and the last one decides.
 use borrow.Author.Tests.{le-leb, lt-leb}
-use Rattle.customer.proofs.Chain.{stop, later, past, refused, passed}
 use Rattle.customer.specs.Customer.{soundKeys}
 use borrow.Author.Needs.{needs}
+use Rattle.ground.proofs.Bools.{later, passed, past, refused, stop}
 use Rattle.customer.proofs.is_sound_keys.Statement.{statement}
 use Rattle.customer.proofs.is_sound_keys.Tie as tie
 
@@ -10,15 +10,9 @@ returns : tie.Need-returns
 unfolding soundKeys
 returns c = stop _ _ (lt-leb _ 9 (c .if1 .taken))
 
-has-odd-parity-requires : tie.Need-has-odd-parity-requires
-has-odd-parity-requires c κs = search needs
-
 returns-2 : tie.Need-returns-2
 unfolding soundKeys
 returns-2 c = later _ _ (stop _ _ (refused (c .before .has-odd-parity .ensures) (c .if2 .taken)))
-
-is-sound-previous-requires : tie.Need-is-sound-previous-requires
-is-sound-previous-requires c κs = search needs
 
 returns-3 : tie.Need-returns-3
 unfolding soundKeys
@@ -29,4 +23,4 @@ returns-3 c =
 pub is-sound-keys-spec : {M : Type 1} → statement M
 is-sound-keys-spec =
     tie.close
-    (tie.spec returns has-odd-parity-requires returns-2 is-sound-previous-requires returns-3)
+    (tie.spec returns (λ c κs. search needs) returns-2 (λ c κs. search needs) returns-3)

@@ -11,12 +11,9 @@ returns : tie.Need-returns
 unfolding soundOnce
 returns c = sym (either-left _ _ (eq-eqb _ _ (c .if1 .taken)))
 
-has-odd-parity-requires : tie.Need-has-odd-parity-requires
-has-odd-parity-requires c κs = search needs
-
 returns-2 : tie.Need-returns-2
 unfolding soundOnce
 returns-2 c = c .has-odd-parity .ensures ∙ sym (either-decides _ _ (ne-eqb _ _ (c .before .if1 .left)))
 
 pub is-sound-once-spec : {M : Type 1} → statement M
-is-sound-once-spec = tie.close (tie.spec returns has-odd-parity-requires returns-2)
+is-sound-once-spec = tie.close (tie.spec returns (λ c κs. search needs) returns-2)

@@ -5,15 +5,6 @@ use borrow.Author.Needs.{needs}
 use Rattle.customer.proofs.is_sound_previous.Statement.{statement}
 use Rattle.customer.proofs.is_sound_previous.Tie as tie
 
-enum-told : tie.Need-enum-told
-enum-told c = search needs
-
-enum-known-p : tie.Need-enum-known-p
-enum-known-p c = search needs
-
-is-sound-changeover-requires : tie.Need-is-sound-changeover-requires
-is-sound-changeover-requires c κs = search needs
-
 returns : tie.Need-returns
 unfolding soundPrevious
 returns c = rw (c .enum-told .given .1)
@@ -23,4 +14,4 @@ returns-2 c = c .is-sound-changeover .ensures ∙ ap (soundPrevious _) (sym (c .
 
 pub is-sound-previous-spec : {M : Type 1} → statement M
 is-sound-previous-spec =
-    tie.close (tie.spec enum-told enum-known-p is-sound-changeover-requires returns returns-2)
+    tie.close (tie.spec (λ c. search needs) (λ c. search needs) (λ c κs. search needs) returns returns-2)

@@ -2,27 +2,15 @@
 use mathlib.Core.Path.{sym}
 use borrow.Author.Tests.{eq-eqb, ne-eqb}
 use Rattle.ground.proofs.Choices.{either-left, either-decides}
-use Rattle.customer.proofs.Chain.{stop, later, past, refused, passed}
+use Rattle.ground.proofs.Bools.{later, passed, past, refused, stop}
 use Rattle.customer.specs.Settings.{soundSettings}
 use borrow.Author.Needs.{needs}
 use Rattle.customer.proofs.is_sound_settings.Statement.{statement}
 use Rattle.customer.proofs.is_sound_settings.Tie as tie
 
-slice-aggregate-is-sound-who : tie.Need-slice-aggregate-is-sound-who
-slice-aggregate-is-sound-who c = search needs
-
-is-sound-who-requires : tie.Need-is-sound-who-requires
-is-sound-who-requires c κs = search needs
-
 returns : tie.Need-returns
 unfolding soundSettings
 returns c = stop _ _ (refused (c .before .is-sound-who .ensures) (c .if1 .taken))
-
-slice-aggregate-is-sound-name : tie.Need-slice-aggregate-is-sound-name
-slice-aggregate-is-sound-name c = search needs
-
-is-sound-name-requires : tie.Need-is-sound-name-requires
-is-sound-name-requires c κs = search needs
 
 returns-2 : tie.Need-returns-2
 unfolding soundSettings
@@ -42,17 +30,18 @@ returns-4 c =
     let i2 = c .before .before .before in
     let i1 = i2 .before .before .before .before in
     past _ _ _ (passed (i1 .before .is-sound-who .ensures) (i1 .if1 .left))
-    (past _ _ _ (passed (i2 .before .is-sound-name .ensures) (i2 .if2 .left)) (sym (either-decides _ _ (ne-eqb _ _ (c .before .if3 .left)))))
+    (past _ _ _ (passed (i2 .before .is-sound-name .ensures) (i2 .if2 .left))
+    (sym (either-decides _ _ (ne-eqb _ _ (c .before .if3 .left)))))
 
 pub is-sound-settings-spec : {M : Type 1} → statement M
 is-sound-settings-spec =
     tie.close
     (tie.spec
-    slice-aggregate-is-sound-who
-    is-sound-who-requires
+    (λ c. search needs)
+    (λ c κs. search needs)
     returns
-    slice-aggregate-is-sound-name
-    is-sound-name-requires
+    (λ c. search needs)
+    (λ c κs. search needs)
     returns-2
     returns-3
     returns-4)

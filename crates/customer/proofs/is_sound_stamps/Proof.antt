@@ -7,7 +7,7 @@ use borrow.Author.Tests.{eq-eqb, ne-eqb}
 use borrow.Kind.Array.{eInt, good-length}
 use mir.Syntax.{w64}
 use Rattle.ground.proofs.Choices.{join, fails-left, fails-right}
-use Rattle.customer.proofs.Chain.{refused, passed}
+use Rattle.ground.proofs.Bools.{passed, refused}
 use Rattle.customer.proofs.Laws.{Passed, passed-none, passed-all, used-stop, free-stop, used-more, free-more}
 use Rattle.customer.proofs.is_sound_stamps.Statement.{statement}
 use Rattle.customer.proofs.is_sound_stamps.Tie as tie
@@ -23,29 +23,11 @@ loop-holds c =
     passed-none _ _ _ (good-length (eInt w64) 64 (c .args .t2) _ (c .good .1 .0))
     (good-length (eInt w64) 64 (c .args .t3) _ (c .good .1 .1 .0))
 
-mul-s : tie.Need-mul-s Inv-loop μ-loop
-mul-s c = omega arith
-
-array-read-s : tie.Need-array-read-s Inv-loop μ-loop
-array-read-s c = omega arith
-
-mul-k : tie.Need-mul-k Inv-loop μ-loop
-mul-k c = omega arith
-
-array-read-k : tie.Need-array-read-k Inv-loop μ-loop
-array-read-k c = omega arith
-
-is-real-stamp-requires : tie.Need-is-real-stamp-requires Inv-loop μ-loop
-is-real-stamp-requires c κs = search needs
-
 returns : tie.Need-returns Inv-loop μ-loop
 returns c =
     let t = c .before .before .before in
     used-stop _ _ _ _ (t .before .loop .inv) (t .loop-test .taken) (c .before .before .if1 .taken)
     (fails-left _ _ (refused (c .before .is-real-stamp .ensures) (c .if2 .taken)))
-
-is-sound-once-requires : tie.Need-is-sound-once-requires Inv-loop μ-loop
-is-sound-once-requires c κs = search needs
 
 returns-2 : tie.Need-returns-2 Inv-loop μ-loop
 returns-2 c =
@@ -64,12 +46,6 @@ returns-4 c =
     let t = c .before .before .before in
     free-stop _ _ _ _ (t .before .loop .inv) (t .loop-test .taken) (c .before .before .if1 .left)
     (fails-right _ _ (ne-eqb _ _ (c .if5 .taken)))
-
-add-i : tie.Need-add-i Inv-loop μ-loop
-add-i c = omega arith
-
-loop-less : tie.Need-loop-less Inv-loop μ-loop
-loop-less c = omega arith
 
 loop-again : tie.Need-loop-again Inv-loop μ-loop
 loop-again c =
@@ -93,17 +69,17 @@ is-sound-stamps-spec =
     Inv-loop
     μ-loop
     loop-holds
-    mul-s
-    array-read-s
-    mul-k
-    array-read-k
-    is-real-stamp-requires
+    (λ c. omega arith)
+    (λ c. omega arith)
+    (λ c. omega arith)
+    (λ c. omega arith)
+    (λ c κs. search needs)
     returns
-    is-sound-once-requires
+    (λ c κs. search needs)
     returns-2
     returns-3
     returns-4
-    add-i
-    loop-less
+    (λ c. omega arith)
+    (λ c. omega arith)
     loop-again
     returns-5)

@@ -3,21 +3,15 @@ use mathlib.Core.Path.{sym, ap, _∙_}
 use native.Mathlib.Omega.{arith}
 use lib.Seq.{take-all, length-take-le}
 use Rattle.text.specs.Characters.{allBlank}
-use Rattle.customer.proofs.Chain.{stop, past, refused, passed, turned}
 use Rattle.customer.specs.Settings.{soundWho}
 use borrow.Author.Needs.{needs}
+use Rattle.ground.proofs.Bools.{passed, past, refused, stop, turned}
 use Rattle.customer.proofs.is_sound_who.Statement.{statement}
 use Rattle.customer.proofs.is_sound_who.Tie as tie
-
-all-field-characters-requires : tie.Need-all-field-characters-requires
-all-field-characters-requires c κs = search needs
 
 returns : tie.Need-returns
 unfolding soundWho
 returns c = stop _ _ (refused (c .before .all-field-characters .ensures) (c .if1 .taken))
-
-all-blank-requires : tie.Need-all-blank-requires
-all-blank-requires c κs = search needs
 
 returns-2 : tie.Need-returns-2
 unfolding soundWho
@@ -27,9 +21,6 @@ returns-2 c =
 
 slice-aggregate-all-blank : tie.Need-slice-aggregate-all-blank
 slice-aggregate-all-blank c = sym (length-take-le 17 (c .before .before .before .before .before .args .who .now) (omega arith))
-
-all-blank-requires-2 : tie.Need-all-blank-requires-2
-all-blank-requires-2 c κs = search needs
 
 returns-3 : tie.Need-returns-3
 unfolding soundWho
@@ -41,10 +32,10 @@ pub is-sound-who-spec : {M : Type 1} → statement M
 is-sound-who-spec =
     tie.close
     (tie.spec
-    all-field-characters-requires
+    (λ c κs. search needs)
     returns
-    all-blank-requires
+    (λ c κs. search needs)
     returns-2
     slice-aggregate-all-blank
-    all-blank-requires-2
+    (λ c κs. search needs)
     returns-3)

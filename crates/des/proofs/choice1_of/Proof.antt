@@ -6,15 +6,9 @@ use borrow.Author.Needs.{needs}
 use Rattle.des.proofs.choice1_of.Statement.{statement}
 use Rattle.des.proofs.choice1_of.Tie as tie
 
-slice-aggregate-select : tie.Need-slice-aggregate-select
-slice-aggregate-select c = search needs
-
 select-requires : tie.Need-select-requires
 unfolding named both
 select-requires c κs = (refl, search needs)
 
-returns : tie.Need-returns
-returns c = search needs
-
 pub choice1-of-spec : {M : Type 1} → statement M
-choice1-of-spec = tie.close (tie.spec slice-aggregate-select select-requires returns)
+choice1-of-spec = tie.close (tie.spec (λ c. search needs) select-requires (λ c. search needs))

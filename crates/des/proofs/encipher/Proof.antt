@@ -3,14 +3,8 @@ use borrow.Author.Needs.{needs}
 use Rattle.des.proofs.encipher.Statement.{statement}
 use Rattle.des.proofs.encipher.Tie as tie
 
-schedule-requires : tie.Need-schedule-requires
-schedule-requires c κs = search needs
-
-rounds-requires : tie.Need-rounds-requires
-rounds-requires c κs = search needs
-
 returns : tie.Need-returns
 returns c = rw (c .rounds .ensures, c .before .schedule .ensures)
 
 pub encipher-spec : {M : Type 1} → statement M
-encipher-spec = tie.close (tie.spec schedule-requires rounds-requires returns)
+encipher-spec = tie.close (tie.spec (λ c κs. search needs) (λ c κs. search needs) returns)

@@ -6,21 +6,6 @@ use borrow.Author.Needs.{needs}
 use Rattle.des.proofs.final_of.Statement.{statement}
 use Rattle.des.proofs.final_of.Tie as tie
 
-delta-requires : tie.Need-delta-requires
-delta-requires c κs = search needs
-
-delta-requires-2 : tie.Need-delta-requires-2
-delta-requires-2 c κs = search needs
-
-delta-requires-3 : tie.Need-delta-requires-3
-delta-requires-3 c κs = search needs
-
-delta-requires-4 : tie.Need-delta-requires-4
-delta-requires-4 c κs = search needs
-
-delta-requires-5 : tie.Need-delta-requires-5
-delta-requires-5 c κs = search needs
-
 returns : tie.Need-returns
 returns c =
     c .delta5 .ensures
@@ -34,9 +19,9 @@ pub final-of-spec : {M : Type 1} → statement M
 final-of-spec =
     tie.close
     (tie.spec
-    delta-requires
-    delta-requires-2
-    delta-requires-3
-    delta-requires-4
-    delta-requires-5
+    (λ c κs. search needs)
+    (λ c κs. search needs)
+    (λ c κs. search needs)
+    (λ c κs. search needs)
+    (λ c κs. search needs)
     returns)

@@ -6,16 +6,17 @@ use lib.Bits.{xor-lt}
 use Rattle.des.specs.Tables.{initial, final}
 use Rattle.des.proofs.Laws.{mixed-lt, feistel-drop, feistel-done}
 use borrow.Author.Needs.{needs}
-use mathlib.Core.Path.{_≡_, refl, sym, ap, _∙_}
-use Prim.Native.Nat.{_≤_, _<_, _^_, _-_, _*_, _/_, _%_}
-use lib.ListN.{length, take, drop}
+use mathlib.Core.Path.{_≡_, sym, ap, _∙_}
+use Prim.Native.Nat.{_≤_, _<_, _^_, _-_, _/_, _%_}
+use lib.ListN.{length, drop}
 use Rattle.des.specs.Des.{feistel, permute, cipherBy}
 use Rattle.des.proofs.rounds_by.Statement.{statement}
 use Rattle.des.proofs.rounds_by.Tie as tie
 
 abbrev Inv-loop : tie.InvT-loop
 Inv-loop s block ks ip l₀ r₀ round₀ l r round =
-    (round ≤ 16) × (l < 2 ^ 32) × (r < 2 ^ 32) × (feistel s (drop round ks) l r ≡ feistel s ks (permute initial 64 block / 2 ^ 32) (permute initial 64 block % 2 ^ 32))
+    (round ≤ 16) × (l < 2 ^ 32) × (r < 2 ^ 32)
+    × (feistel s (drop round ks) l r ≡ feistel s ks (permute initial 64 block / 2 ^ 32) (permute initial 64 block % 2 ^ 32))
 
 abbrev μ-loop : tie.MeasureT-loop
 μ-loop s block ks ip l₀ r₀ round₀ l r round = 16 - round
@@ -27,9 +28,6 @@ keys c = good-length (eInt w64) 16 (c .args .t2) _ (c .good .1 .0)
 more : (c : tie.After-mix Inv-loop μ-loop) → c .before .before .loop .round < length (c .before .before .before .before .args .t2)
 more c = omega (arith, keys (c .before .before .before .before))
 
-initial-of-requires : tie.Need-initial-of-requires Inv-loop μ-loop
-initial-of-requires c κs = search needs
-
 loop-holds : tie.Need-loop-holds Inv-loop μ-loop
 loop-holds c = (
   search needs,
@@ -37,21 +35,6 @@ loop-holds c = (
   omega arith,
   rw (c .initial-of .ensures),
 )
-
-mul-k : tie.Need-mul-k Inv-loop μ-loop
-mul-k c = search needs
-
-array-read-k : tie.Need-array-read-k Inv-loop μ-loop
-array-read-k c = search needs
-
-mix-requires : tie.Need-mix-requires Inv-loop μ-loop
-mix-requires c κs = search needs
-
-add-round : tie.Need-add-round Inv-loop μ-loop
-add-round c = search needs
-
-loop-less : tie.Need-loop-less Inv-loop μ-loop
-loop-less c = search needs
 
 loop-again : tie.Need-loop-again Inv-loop μ-loop
 loop-again c =
@@ -62,15 +45,6 @@ loop-again c =
       rw (c .mix .ensures)
           (sym (feistel-drop _ _ _ _ _ (more c)) ∙ c .before .before .loop .inv .3),
     )
-
-mul-final-of : tie.Need-mul-final-of Inv-loop μ-loop
-mul-final-of c = search needs
-
-add-final-of : tie.Need-add-final-of Inv-loop μ-loop
-add-final-of c = search needs
-
-final-of-requires : tie.Need-final-of-requires Inv-loop μ-loop
-final-of-requires c κs = search needs
 
 returns : tie.Need-returns Inv-loop μ-loop
 unfolding cipherBy
@@ -85,15 +59,15 @@ rounds-by-spec =
     (tie.spec
     Inv-loop
     μ-loop
-    initial-of-requires
+    (λ c κs. search needs)
     loop-holds
-    mul-k
-    array-read-k
-    mix-requires
-    add-round
-    loop-less
+    (λ c. search needs)
+    (λ c. search needs)
+    (λ c κs. search needs)
+    (λ c. search needs)
+    (λ c. search needs)
     loop-again
-    mul-final-of
-    add-final-of
-    final-of-requires
+    (λ c. search needs)
+    (λ c. search needs)
+    (λ c κs. search needs)
     returns)

@@ -4,7 +4,7 @@ use Rattle.des.proofs.Laws.{permute-lt, shift-range, rotated-lt, keys-s
 use borrow.Author.Needs.{needs}
 use mathlib.Core.Path.{_≡_, refl, sym, _∙_}
 use mathlib.Core.List.{_++_}
-use Prim.Native.Nat.{_≤_, _<_, _^_, _-_, _*_}
+use Prim.Native.Nat.{_≤_, _<_, _^_, _-_}
 use lib.ListN.{length, take, drop, length-set}
 use Rattle.des.specs.Tables.{shifts, choice1}
 use Rattle.des.specs.Des.{keysFrom, scheduleOf}
@@ -26,20 +26,11 @@ halves c =
       rw (c .rotate2 .ensures) (rotated-lt _ _ (s .0) (s .1) (c .before .before .before .loop .inv .2)),
     )
 
-choice1-of-requires : tie.Need-choice1-of-requires Inv-loop μ-loop
-choice1-of-requires c κs = search needs
-
 loop-holds : tie.Need-loop-holds Inv-loop μ-loop
 unfolding scheduleOf
 loop-holds c =
     let b : c .choice1-of .result < 2 ^ 56 = rw (c .choice1-of .ensures) (permute-lt choice1 64 _) in
     (search needs, omega arith, omega arith, refl, rw (c .choice1-of .ensures))
-
-mul-s : tie.Need-mul-s Inv-loop μ-loop
-mul-s c = search needs
-
-array-read-s : tie.Need-array-read-s Inv-loop μ-loop
-array-read-s c = search needs
 
 rotate-requires : tie.Need-rotate-requires Inv-loop μ-loop
 rotate-requires c κs = omega (arith, shift-range (c .before .loop .i) (c .loop-test .taken))
@@ -52,21 +43,6 @@ mul-choice2-of c = omega (arith, halves c)
 
 add-choice2-of : tie.Need-add-choice2-of Inv-loop μ-loop
 add-choice2-of c = omega (arith, halves c)
-
-choice2-of-requires : tie.Need-choice2-of-requires Inv-loop μ-loop
-choice2-of-requires c κs = search needs
-
-mul-ks : tie.Need-mul-ks Inv-loop μ-loop
-mul-ks c = search needs
-
-array-write-ks : tie.Need-array-write-ks Inv-loop μ-loop
-array-write-ks c = search needs
-
-add-i : tie.Need-add-i Inv-loop μ-loop
-add-i c = search needs
-
-loop-less : tie.Need-loop-less Inv-loop μ-loop
-loop-less c = search needs
 
 loop-again : tie.Need-loop-again Inv-loop μ-loop
 loop-again c = (
@@ -88,18 +64,18 @@ schedule-spec =
     (tie.spec
     Inv-loop
     μ-loop
-    choice1-of-requires
+    (λ c κs. search needs)
     loop-holds
-    mul-s
-    array-read-s
+    (λ c. search needs)
+    (λ c. search needs)
     rotate-requires
     rotate-requires-2
     mul-choice2-of
     add-choice2-of
-    choice2-of-requires
-    mul-ks
-    array-write-ks
-    add-i
-    loop-less
+    (λ c κs. search needs)
+    (λ c. search needs)
+    (λ c. search needs)
+    (λ c. search needs)
+    (λ c. search needs)
     loop-again
     returns)

@@ -5,7 +5,7 @@ use native.Mathlib.Omega.{arith}
 use borrow.Author.Needs.{needs}
 use lib.Dec.{lit<}
 use lib.ListN.{length, drop, getD, drop-of-length-le}
-use Rattle.des.specs.Des.{bit, select, permute}
+use Rattle.des.specs.Des.{select}
 use Rattle.des.proofs.Laws.{named-at, bit-lt, push, push-fits, select-drop}
 use Rattle.des.proofs.select.Statement.{statement}
 use Rattle.des.proofs.select.Tie as tie
@@ -29,12 +29,6 @@ index c = omega arith
 loop-holds : tie.Need-loop-holds Inv-loop μ-loop
 loop-holds c = (search needs, omega arith, refl)
 
-mul-t : tie.Need-mul-t Inv-loop μ-loop
-mul-t c = search needs
-
-shared-slice-read-t : tie.Need-shared-slice-read-t Inv-loop μ-loop
-shared-slice-read-t c = search needs
-
 mul-r : tie.Need-mul-r Inv-loop μ-loop
 mul-r c = omega (arith, push-fits _ 0 _ (index c) (c .before .before .loop .inv .1) (lit< tt))
 
@@ -46,12 +40,6 @@ shr-r c = omega (arith, entry c)
 
 add-r : tie.Need-add-r Inv-loop μ-loop
 add-r c = record { fits = push-fits _ _ _ (index c) (c .before .before .loop .inv .1) (bit-lt _ _) }
-
-add-i : tie.Need-add-i Inv-loop μ-loop
-add-i c = search needs
-
-loop-less : tie.Need-loop-less Inv-loop μ-loop
-loop-less c = search needs
 
 loop-again : tie.Need-loop-again Inv-loop μ-loop
 loop-again c = (
@@ -71,13 +59,13 @@ select-spec =
     Inv-loop
     μ-loop
     loop-holds
-    mul-t
-    shared-slice-read-t
+    (λ c. search needs)
+    (λ c. search needs)
     mul-r
     sub-r
     shr-r
     add-r
-    add-i
-    loop-less
+    (λ c. search needs)
+    (λ c. search needs)
     loop-again
     returns)

@@ -5,27 +5,6 @@ use borrow.Author.Needs.{needs}
 use Rattle.digest.proofs.checksum.Statement.{statement}
 use Rattle.digest.proofs.checksum.Tie as tie
 
-box-table-requires : tie.Need-box-table-requires
-box-table-requires c κs = search needs
-
-schedule-requires : tie.Need-schedule-requires
-schedule-requires c κs = search needs
-
-start-requires : tie.Need-start-requires
-start-requires c κs = search needs
-
-at-record-requires : tie.Need-at-record-requires
-at-record-requires c κs = search needs
-
-covered-requires : tie.Need-covered-requires
-covered-requires c κs = search needs
-
-run-requires : tie.Need-run-requires
-run-requires c κs = search needs
-
-close-requires : tie.Need-close-requires
-close-requires c κs = search needs
-
 returns : tie.Need-returns
 returns c =
     let d = c .before .before .before in
@@ -42,11 +21,11 @@ pub checksum-spec : {M : Type 1} → statement M
 checksum-spec =
     tie.close
     (tie.spec
-    box-table-requires
-    schedule-requires
-    start-requires
-    at-record-requires
-    covered-requires
-    run-requires
-    close-requires
+    (λ c κs. search needs)
+    (λ c κs. search needs)
+    (λ c κs. search needs)
+    (λ c κs. search needs)
+    (λ c κs. search needs)
+    (λ c κs. search needs)
+    (λ c κs. search needs)
     returns)

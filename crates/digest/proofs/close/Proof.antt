@@ -8,22 +8,10 @@ use Rattle.digest.proofs.close.Tie as tie
 returns : tie.Need-returns
 returns c = closed-full _ _ (c .if1 .taken)
 
-mul-rounds-by : tie.Need-mul-rounds-by
-mul-rounds-by c = search needs
-
-sub-rounds-by : tie.Need-sub-rounds-by
-sub-rounds-by c = search needs
-
-shl-rounds-by : tie.Need-shl-rounds-by
-shl-rounds-by c = search needs
-
-rounds-by-requires : tie.Need-rounds-by-requires
-rounds-by-requires c κs = search needs
-
 returns-2 : tie.Need-returns-2
 returns-2 c = c .rounds-by .ensures ∙ closed-shift _ _ (c .before .before .before .if1 .left)
 
 pub close-spec : {M : Type 1} → statement M
 close-spec =
     tie.close
-    (tie.spec returns mul-rounds-by sub-rounds-by shl-rounds-by rounds-by-requires returns-2)
+    (tie.spec returns (λ c. search needs) (λ c. search needs) (λ c. search needs) (λ c κs. search needs) returns-2)

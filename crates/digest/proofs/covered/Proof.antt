@@ -13,8 +13,5 @@ returns c = sym (take-all 144 _ (le-of-lt (c .if1 .taken)))
 slice-aggregate-result : tie.Need-slice-aggregate-result
 slice-aggregate-result c = sym (length-take-le _ (now (c .before .before .args .message)) (search needs))
 
-returns-2 : tie.Need-returns-2
-returns-2 c = search needs
-
 pub covered-spec : {M : Type 1} → statement M
-covered-spec = tie.close (tie.spec returns slice-aggregate-result returns-2)
+covered-spec = tie.close (tie.spec returns slice-aggregate-result (λ c. search needs))

@@ -4,18 +4,6 @@ use Rattle.digest.proofs.Folds.{shifted, fed-eighth, fed-other}
 use Rattle.digest.proofs.feed.Statement.{statement}
 use Rattle.digest.proofs.feed.Tie as tie
 
-wide-requires : tie.Need-wide-requires
-wide-requires c κs = search needs
-
-add-block : tie.Need-add-block
-add-block c = search needs
-
-wrapping-add-u64-requires : tie.Need-wrapping-add-u64-requires
-wrapping-add-u64-requires c κs = search needs
-
-rounds-by-requires : tie.Need-rounds-by-requires
-rounds-by-requires c κs = search needs
-
 returns : tie.Need-returns
 returns c =
     let w = c .before .before .before .before .before .wide .ensures in
@@ -34,9 +22,9 @@ pub feed-spec : {M : Type 1} → statement M
 feed-spec =
     tie.close
     (tie.spec
-    wide-requires
-    add-block
-    wrapping-add-u64-requires
-    rounds-by-requires
+    (λ c κs. search needs)
+    (λ c. search needs)
+    (λ c κs. search needs)
+    (λ c κs. search needs)
     returns
     returns-2)

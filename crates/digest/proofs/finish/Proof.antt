@@ -12,12 +12,9 @@ returns : tie.Need-returns
 unfolding answered
 returns c = sym (picks _ _ _ (eq-eqb _ _ (c .if1 .taken)))
 
-close-requires : tie.Need-close-requires
-close-requires c κs = search needs
-
 returns-2 : tie.Need-returns-2
 unfolding answered
 returns-2 c = ap Is (c .close .ensures) ∙ sym (skips _ _ _ (ne-eqb _ _ (c .before .if1 .left)))
 
 pub finish-spec : {M : Type 1} → statement M
-finish-spec = tie.close (tie.spec returns close-requires returns-2)
+finish-spec = tie.close (tie.spec returns (λ c κs. search needs) returns-2)

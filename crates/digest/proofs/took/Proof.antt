@@ -4,12 +4,6 @@ use Rattle.digest.proofs.Folds.{took-blank, took-other}
 use Rattle.digest.proofs.took.Statement.{statement}
 use Rattle.digest.proofs.took.Tie as tie
 
-internal-code-requires : tie.Need-internal-code-requires
-internal-code-requires c κs = search needs
-
-feed-requires : tie.Need-feed-requires
-feed-requires c κs = search needs
-
 returns : tie.Need-returns
 returns c =
     took-blank _ _ _ (rw (c .before .before .internal-code .ensures) at (c .before .feed .ensures)) (c .if1 .taken)
@@ -19,4 +13,4 @@ returns-2 c =
     took-other _ _ _ (rw (c .before .before .internal-code .ensures) at (c .before .feed .ensures)) (c .if1 .left)
 
 pub took-spec : {M : Type 1} → statement M
-took-spec = tie.close (tie.spec internal-code-requires feed-requires returns returns-2)
+took-spec = tie.close (tie.spec (λ c κs. search needs) (λ c κs. search needs) returns returns-2)

@@ -5,12 +5,6 @@ use borrow.Author.Needs.{needs}
 use Rattle.edge.proofs.fixed16.Statement.{statement}
 use Rattle.edge.proofs.fixed16.Tie as tie
 
-slice-aggregate-copy : tie.Need-slice-aggregate-copy
-slice-aggregate-copy c = search needs
-
-copy-requires : tie.Need-copy-requires
-copy-requires c κs = search needs
-
 returns : tie.Need-returns
 returns c = c .before .copy .ensures ∙ fixed-copied 16 _ _ (c .before .before .before .if1 .taken) refl
 
@@ -18,4 +12,4 @@ returns-2 : tie.Need-returns-2
 returns-2 c = fixed-none 16 _ (c .if1 .left)
 
 pub fixed16-spec : {M : Type 1} → statement M
-fixed16-spec = tie.close (tie.spec slice-aggregate-copy copy-requires returns returns-2)
+fixed16-spec = tie.close (tie.spec (λ c. search needs) (λ c κs. search needs) returns returns-2)

@@ -5,12 +5,6 @@ use borrow.Author.Needs.{needs}
 use Rattle.edge.proofs.fixed25.Statement.{statement}
 use Rattle.edge.proofs.fixed25.Tie as tie
 
-slice-aggregate-copy : tie.Need-slice-aggregate-copy
-slice-aggregate-copy c = search needs
-
-copy-requires : tie.Need-copy-requires
-copy-requires c κs = search needs
-
 returns : tie.Need-returns
 returns c = c .before .copy .ensures ∙ fixed-copied 25 _ _ (c .before .before .before .if1 .taken) refl
 
@@ -18,4 +12,4 @@ returns-2 : tie.Need-returns-2
 returns-2 c = fixed-none 25 _ (c .if1 .left)
 
 pub fixed25-spec : {M : Type 1} → statement M
-fixed25-spec = tie.close (tie.spec slice-aggregate-copy copy-requires returns returns-2)
+fixed25-spec = tie.close (tie.spec (λ c. search needs) (λ c κs. search needs) returns returns-2)

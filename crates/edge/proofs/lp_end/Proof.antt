@@ -5,40 +5,23 @@ use borrow.Author.Needs.{needs}
 use Rattle.edge.proofs.lp_end.Statement.{statement}
 use Rattle.edge.proofs.lp_end.Tie as tie
 
-load-requires : tie.Need-load-requires
-load-requires c κs = search needs
-
-end-requires : tie.Need-end-requires
-end-requires c κs = search needs
-
-put-session-requires : tie.Need-put-session-requires
-put-session-requires c κs = search needs
-
-packed-answer-requires : tie.Need-packed-answer-requires
-packed-answer-requires c κs = search needs
-
-same-length : tie.Need-same-length
-same-length c = search needs
-
-same-length-2 : tie.Need-same-length-2
-same-length-2 c = search needs
-
-same-length-3 : tie.Need-same-length-3
-same-length-3 c = search needs
-
 returns : tie.Need-returns
 returns c =
-    let k = c .before .before .before .before .before .before .before .before .before .end .ensures in end-made _ _ [] _ (c .before .before .before .before .before .before .before .before .before .before .before .before .load .ensures) (k .answers, (k .leaves, k .shows)) (c .before .before .before .put-session .ensures) (c .packed-answer .ensures)
+    let at-put-session = c .before .before .before in
+    let at-end = at-put-session .before .before .before .before .before .before in
+    let at-load = at-end .before .before .before in
+    let k = at-end .end .ensures in end-made _ _ [] _ (at-load .load .ensures) (k .answers, (k .leaves, k .shows))
+    (at-put-session .put-session .ensures) (c .packed-answer .ensures)
 
 pub lp-end-spec : {M : Type 1} → statement M
 lp-end-spec =
     tie.close
     (tie.spec
-    load-requires
-    end-requires
-    put-session-requires
-    packed-answer-requires
-    same-length
-    same-length-2
-    same-length-3
+    (λ c κs. search needs)
+    (λ c κs. search needs)
+    (λ c κs. search needs)
+    (λ c κs. search needs)
+    (λ c. search needs)
+    (λ c. search needs)
+    (λ c. search needs)
     returns)

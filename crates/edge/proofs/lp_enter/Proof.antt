@@ -6,15 +6,6 @@ use borrow.Author.Needs.{needs}
 use Rattle.edge.proofs.lp_enter.Statement.{statement}
 use Rattle.edge.proofs.lp_enter.Tie as tie
 
-fixed25-requires : tie.Need-fixed25-requires
-fixed25-requires c κs = search needs
-
-enter-requires : tie.Need-enter-requires
-enter-requires c κs = search needs
-
-same-length : tie.Need-same-length
-same-length c = search needs
-
 returns : tie.Need-returns
 unfolding enteringBy refusalOf leftBy
 returns c =
@@ -22,4 +13,4 @@ returns c =
     enter-made (rw (← c .before .before .before .before .fixed25 .ensures) (k .answers, k .leaves))
 
 pub lp-enter-spec : {M : Type 1} → statement M
-lp-enter-spec = tie.close (tie.spec fixed25-requires enter-requires same-length returns)
+lp-enter-spec = tie.close (tie.spec (λ c κs. search needs) (λ c κs. search needs) (λ c. search needs) returns)

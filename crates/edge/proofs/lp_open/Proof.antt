@@ -4,21 +4,6 @@ use borrow.Author.Needs.{needs}
 use Rattle.edge.proofs.lp_open.Statement.{statement}
 use Rattle.edge.proofs.lp_open.Tie as tie
 
-kind-asked-requires : tie.Need-kind-asked-requires
-kind-asked-requires c κs = search needs
-
-open-requires : tie.Need-open-requires
-open-requires c κs = search needs
-
-put-opened-requires : tie.Need-put-opened-requires
-put-opened-requires c κs = search needs
-
-same-length : tie.Need-same-length
-same-length c = search needs
-
-same-length-2 : tie.Need-same-length-2
-same-length-2 c = search needs
-
 returns : tie.Need-returns
 returns c =
     let a = c .before .before .before .before .before .before .before .before .before .before .before .args in
@@ -31,9 +16,9 @@ pub lp-open-spec : {M : Type 1} → statement M
 lp-open-spec =
     tie.close
     (tie.spec
-    kind-asked-requires
-    open-requires
-    put-opened-requires
-    same-length
-    same-length-2
+    (λ c κs. search needs)
+    (λ c κs. search needs)
+    (λ c κs. search needs)
+    (λ c. search needs)
+    (λ c. search needs)
     returns)

@@ -6,15 +6,6 @@ use borrow.Author.Needs.{needs}
 use Rattle.edge.proofs.lp_order.Statement.{statement}
 use Rattle.edge.proofs.lp_order.Tie as tie
 
-fixed25-requires : tie.Need-fixed25-requires
-fixed25-requires c κs = search needs
-
-order-requires : tie.Need-order-requires
-order-requires c κs = search needs
-
-same-length : tie.Need-same-length
-same-length c = search needs
-
 returns : tie.Need-returns
 unfolding orderingBy refusalOf leftBy
 returns c =
@@ -22,4 +13,4 @@ returns c =
     order-made (rw (← c .before .before .before .before .fixed25 .ensures) (k .answers, k .leaves))
 
 pub lp-order-spec : {M : Type 1} → statement M
-lp-order-spec = tie.close (tie.spec fixed25-requires order-requires same-length returns)
+lp-order-spec = tie.close (tie.spec (λ c κs. search needs) (λ c κs. search needs) (λ c. search needs) returns)

@@ -4,40 +4,23 @@ use borrow.Author.Needs.{needs}
 use Rattle.edge.proofs.lp_read.Statement.{statement}
 use Rattle.edge.proofs.lp_read.Tie as tie
 
-load-requires : tie.Need-load-requires
-load-requires c κs = search needs
-
-read-requires : tie.Need-read-requires
-read-requires c κs = search needs
-
-put-session-requires : tie.Need-put-session-requires
-put-session-requires c κs = search needs
-
-packed-answer-requires : tie.Need-packed-answer-requires
-packed-answer-requires c κs = search needs
-
-same-length : tie.Need-same-length
-same-length c = search needs
-
-same-length-2 : tie.Need-same-length-2
-same-length-2 c = search needs
-
-same-length-3 : tie.Need-same-length-3
-same-length-3 c = search needs
-
 returns : tie.Need-returns
 returns c =
-    let k = c .before .before .before .before .before .before .before .before .before .read .ensures in read-made _ _ _ _ (c .before .before .before .before .before .before .before .before .before .before .before .before .load .ensures) (k .answers, (k .leaves, k .shows)) (c .before .before .before .put-session .ensures) (c .packed-answer .ensures)
+    let at-put-session = c .before .before .before in
+    let at-read = at-put-session .before .before .before .before .before .before in
+    let at-load = at-read .before .before .before in
+    let k = at-read .read .ensures in read-made _ _ _ _ (at-load .load .ensures) (k .answers, (k .leaves, k .shows))
+    (at-put-session .put-session .ensures) (c .packed-answer .ensures)
 
 pub lp-read-spec : {M : Type 1} → statement M
 lp-read-spec =
     tie.close
     (tie.spec
-    load-requires
-    read-requires
-    put-session-requires
-    packed-answer-requires
-    same-length
-    same-length-2
-    same-length-3
+    (λ c κs. search needs)
+    (λ c κs. search needs)
+    (λ c κs. search needs)
+    (λ c κs. search needs)
+    (λ c. search needs)
+    (λ c. search needs)
+    (λ c. search needs)
     returns)

@@ -6,18 +6,6 @@ use borrow.Author.Needs.{needs}
 use Rattle.edge.proofs.lp_set_up.Statement.{statement}
 use Rattle.edge.proofs.lp_set_up.Tie as tie
 
-fixed25-requires : tie.Need-fixed25-requires
-fixed25-requires c κs = search needs
-
-fixed16-requires : tie.Need-fixed16-requires
-fixed16-requires c κs = search needs
-
-set-up-requires : tie.Need-set-up-requires
-set-up-requires c κs = search needs
-
-same-length : tie.Need-same-length
-same-length c = search needs
-
 returns : tie.Need-returns
 unfolding settingBy refusalOf leftBy
 returns c =
@@ -28,4 +16,4 @@ returns c =
 
 pub lp-set-up-spec : {M : Type 1} → statement M
 lp-set-up-spec =
-    tie.close (tie.spec fixed25-requires fixed16-requires set-up-requires same-length returns)
+    tie.close (tie.spec (λ c κs. search needs) (λ c κs. search needs) (λ c κs. search needs) (λ c. search needs) returns)

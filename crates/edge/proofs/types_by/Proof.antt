@@ -14,7 +14,8 @@ returns-3 : tie.Need-returns-3
 returns-3 c = types-given _ _ _ _ (c .if3 .taken)
 
 returns-4 : tie.Need-returns-4
-returns-4 c = let a = c .before .before .if1 .left in let l = c .before .if2 .left in let g = c .if3 .left in types-good _ _ _ _ (omega arith) (omega arith) (omega arith)
+returns-4 c = let a = c .before .before .if1 .left in let l = c .before .if2 .left in let g = c .if3 .left in
+    types-good _ _ _ _ (omega arith) (omega arith) (omega arith)
 
 pub types-by-spec : {M : Type 1} → statement M
 types-by-spec = tie.close (tie.spec returns returns-2 returns-3 returns-4)

@@ -4,12 +4,9 @@ use Rattle.keys.specs.Keys.{checkValue}
 use Rattle.keys.proofs.check_value.Statement.{statement}
 use Rattle.keys.proofs.check_value.Tie as tie
 
-encipher-requires : tie.Need-encipher-requires
-encipher-requires c κs = search needs
-
 returns : tie.Need-returns
 unfolding checkValue
 returns c = rw (c .encipher .ensures)
 
 pub check-value-spec : {M : Type 1} → statement M
-check-value-spec = tie.close (tie.spec encipher-requires returns)
+check-value-spec = tie.close (tie.spec (λ c κs. search needs) returns)

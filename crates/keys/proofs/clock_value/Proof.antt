@@ -4,12 +4,9 @@ use Rattle.keys.specs.Maker.{clockValue}
 use Rattle.keys.proofs.clock_value.Statement.{statement}
 use Rattle.keys.proofs.clock_value.Tie as tie
 
-wrapping-add-u64-requires : tie.Need-wrapping-add-u64-requires
-wrapping-add-u64-requires c κs = search needs
-
 returns : tie.Need-returns
 unfolding clockValue
 returns c = c .wrapping-add-u64 .ensures
 
 pub clock-value-spec : {M : Type 1} → statement M
-clock-value-spec = tie.close (tie.spec wrapping-add-u64-requires returns)
+clock-value-spec = tie.close (tie.spec (λ c κs. search needs) returns)

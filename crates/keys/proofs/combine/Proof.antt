@@ -4,12 +4,9 @@ use borrow.Author.Needs.{needs}
 use Rattle.keys.proofs.combine.Statement.{statement}
 use Rattle.keys.proofs.combine.Tie as tie
 
-with-parity-requires : tie.Need-with-parity-requires
-with-parity-requires c κs = search needs
-
 returns : tie.Need-returns
 unfolding combined
 returns c = c .with-parity .ensures
 
 pub combine-spec : {M : Type 1} → statement M
-combine-spec = tie.close (tie.spec with-parity-requires returns)
+combine-spec = tie.close (tie.spec (λ c κs. search needs) returns)

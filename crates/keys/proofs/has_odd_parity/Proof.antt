@@ -4,11 +4,8 @@ use borrow.Author.Needs.{needs}
 use Rattle.keys.proofs.has_odd_parity.Statement.{statement}
 use Rattle.keys.proofs.has_odd_parity.Tie as tie
 
-with-parity-requires : tie.Need-with-parity-requires
-with-parity-requires c κs = search needs
-
 returns : tie.Need-returns
 returns c = rw (c .with-parity .ensures) (odd-test _ (search needs))
 
 pub has-odd-parity-spec : {M : Type 1} → statement M
-has-odd-parity-spec = tie.close (tie.spec with-parity-requires returns)
+has-odd-parity-spec = tie.close (tie.spec (λ c κs. search needs) returns)

@@ -7,9 +7,6 @@ use Rattle.keys.specs.Keys.{nextGeneration}
 use Rattle.keys.proofs.next_generation.Statement.{statement}
 use Rattle.keys.proofs.next_generation.Tie as tie
 
-add-result : tie.Need-add-result
-add-result c = search needs
-
 returns : tie.Need-returns
 unfolding nextGeneration
 returns c = sym (picks _ _ _ (lt-ltb _ _ (c .if1 .taken)))
@@ -19,4 +16,4 @@ unfolding nextGeneration
 returns-2 c = sym (skips _ _ _ (le-ltb _ _ (c .if1 .left)))
 
 pub next-generation-spec : {M : Type 1} → statement M
-next-generation-spec = tie.close (tie.spec add-result returns returns-2)
+next-generation-spec = tie.close (tie.spec (λ c. search needs) returns returns-2)

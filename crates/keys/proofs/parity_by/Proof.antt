@@ -18,36 +18,15 @@ loop-holds : tie.Need-loop-holds Inv-loop μ-loop
 unfolding parityBytes
 loop-holds c = (search needs, refl)
 
-mul-b : tie.Need-mul-b Inv-loop μ-loop
-mul-b c = search needs
-
-sub-b : tie.Need-sub-b Inv-loop μ-loop
-sub-b c = search needs
-
-shr-b : tie.Need-shr-b Inv-loop μ-loop
-shr-b c = search needs
-
 mul-r : tie.Need-mul-r Inv-loop μ-loop
 mul-r c =
     let h : c .before .loop .i < 8 = omega arith in
     record { fits = rw (c .before .loop .inv .1) (room-before _ _ h) }
 
-element-copy-out-wide : tie.Need-element-copy-out-wide Inv-loop μ-loop
-element-copy-out-wide c = search needs
-
-wide-requires : tie.Need-wide-requires Inv-loop μ-loop
-wide-requires c κs = search needs
-
 add-r : tie.Need-add-r Inv-loop μ-loop
 add-r c =
     let h : c .before .before .before .loop .i < 8 = omega arith in
     record { fits = rw (c .before .before .before .loop .inv .1) (room _ _ _ h (c .wide .ensures .1)) }
-
-add-i : tie.Need-add-i Inv-loop μ-loop
-add-i c = search needs
-
-loop-less : tie.Need-loop-less Inv-loop μ-loop
-loop-less c = search needs
 
 loop-again : tie.Need-loop-again Inv-loop μ-loop
 loop-again c =
@@ -70,14 +49,14 @@ parity-by-spec =
     Inv-loop
     μ-loop
     loop-holds
-    mul-b
-    sub-b
-    shr-b
+    (λ c. search needs)
+    (λ c. search needs)
+    (λ c. search needs)
     mul-r
-    element-copy-out-wide
-    wide-requires
+    (λ c. search needs)
+    (λ c κs. search needs)
     add-r
-    add-i
-    loop-less
+    (λ c. search needs)
+    (λ c. search needs)
     loop-again
     returns)

@@ -34,8 +34,5 @@ parity-by-requires : tie.Need-parity-by-requires
 unfolding test both parityByte ones
 parity-by-requires c κs = rule (lent c) refl tt
 
-returns : tie.Need-returns
-returns c = search needs
-
 pub with-parity-spec : {M : Type 1} → statement M
-with-parity-spec = tie.close (tie.spec parity-by-requires returns)
+with-parity-spec = tie.close (tie.spec parity-by-requires (λ c. search needs))

@@ -5,6 +5,7 @@ use mathlib.Core.Logic.{⊎-elim, inl, inr}
 use lib.Dec.{eqb, lit≤}
 use Rattle.ground.specs.Choice.{both, either, fails, pick}
 use Rattle.ground.specs.Lists.{same}
+use Rattle.ground.proofs.Bools.{not-fails}
 use Rattle.text.specs.Characters.{allBlank}
 use Rattle.text.specs.Numbers.{decimal}
 use Rattle.text.specs.Letters.{letters}
@@ -12,86 +13,53 @@ use Rattle.calendar.specs.Dates.{realDate, realTime}
 use Rattle.message.specs.Layout.{widthIn, layoutLength}
 use Rattle.message.specs.Rules.{oneOf, methods, commonRules, obeys}
 use Rattle.message.proofs.Places.{named-whole, named-fits}
-use Rattle.message.proofs.Tests.{asked, unasked, not-fails}
+use Rattle.message.proofs.Tests.{asked, unasked}
 use borrow.Author.Needs.{needs}
 use Rattle.message.proofs.common_holds.Statement.{statement}
 use Rattle.message.proofs.common_holds.Tie as tie
 
-number-requires : tie.Need-number-requires
-number-requires c κs = search needs
-
-length-of-requires : tie.Need-length-of-requires
-length-of-requires c κs = search needs
-
-slice-aggregate-one-of : tie.Need-slice-aggregate-one-of
-slice-aggregate-one-of c = search needs
-
-slice-aggregate-one-of-2 : tie.Need-slice-aggregate-one-of-2
-slice-aggregate-one-of-2 c = search needs
-
-one-of-requires : tie.Need-one-of-requires
-one-of-requires c κs = search needs
-
-all-blank-requires : tie.Need-all-blank-requires
-all-blank-requires c κs = search needs
-
-slice-aggregate-same-bytes : tie.Need-slice-aggregate-same-bytes
-slice-aggregate-same-bytes c = search needs
-
-same-bytes-requires : tie.Need-same-bytes-requires
-same-bytes-requires c κs = search needs
-
-all-blank-requires-2 : tie.Need-all-blank-requires-2
-all-blank-requires-2 c κs = search needs
-
-method-holds-requires : tie.Need-method-holds-requires
-method-holds-requires c κs = search needs
-
-number-requires-2 : tie.Need-number-requires-2
-number-requires-2 c κs = search needs
-
 cast-t20 : tie.Need-cast-t20
 unfolding widthIn pick
 cast-t20 c =
-    record
-    { fits = named-fits 121 _ (c .before .before .before .args .text .now) (c .before .match .keys7) (c .before .before .before .pre) _ (c .number2 .ensures) (lit≤ tt) }
-
-is-real-requires : tie.Need-is-real-requires
-is-real-requires c κs = search needs
-
-number-requires-3 : tie.Need-number-requires-3
-number-requires-3 c κs = search needs
+    record {
+      fits = named-fits 121 _ (c .before .before .before .args .text .now) (c .before .match .keys7) (c .before .before .before .pre) _
+          (c .number2 .ensures) (lit≤ tt);
+    }
 
 cast-is-real-time : tie.Need-cast-is-real-time
 unfolding widthIn pick
 cast-is-real-time c =
-    record
-    { fits = named-fits 122 _ (c .before .before .before .args .text .now) (c .before .match .keys8) (c .before .before .before .pre) _ (c .number3 .ensures) (lit≤ tt) }
-
-is-real-time-requires : tie.Need-is-real-time-requires
-is-real-time-requires c κs = search needs
+    record {
+      fits = named-fits 122 _ (c .before .before .before .args .text .now) (c .before .match .keys8) (c .before .before .before .pre) _
+          (c .number3 .ensures) (lit≤ tt);
+    }
 
 returns : tie.Need-returns
 unfolding commonRules obeys both either fails widthIn pick
 returns c m q =
+    let at-pre = c .before .before .before .before in
     ap₂ eqb
-    (named-whole 20 _ _ (c .before .before .match .keys1) (c .before .before .before .before .pre) _ (c .before .number .ensures) (lit≤ tt))
+    (named-whole 20 _ _ (c .before .before .match .keys1) (at-pre .pre) _ (c .before .number .ensures) (lit≤ tt))
     (c .length-of .ensures)
-    ∙ asked commonRules _ _ _ m _ q refl 20 (λ text. eqb (decimal text) (layoutLength (c .before .before .before .before .args .k))) (c .before .before .match .keys1) refl
+    ∙ asked commonRules _ _ _ m _ q refl 20 (λ text. eqb (decimal text) (layoutLength (at-pre .args .k)))
+    (c .before .before .match .keys1) refl
 
 returns-2 : tie.Need-returns-2
 unfolding commonRules letters obeys both either fails
-returns-2 c m q = c .one-of .ensures ∙ asked commonRules _ _ _ m _ q refl 30 (oneOf (letters "110" ∷ letters "120" ∷ [])) (c .before .before .before .match .keys2) refl
+returns-2 c m q = c .one-of .ensures ∙ asked commonRules _ _ _ m _ q refl 30 (oneOf (letters "110" ∷ letters "120" ∷ []))
+    (c .before .before .before .match .keys2) refl
 
 returns-3 : tie.Need-returns-3
 unfolding commonRules obeys both either fails
 returns-3 c m q =
     c .all-blank .ensures
-    ∙ ⊎-elim (λ e. asked commonRules _ _ _ m _ q refl 40 allBlank e refl) (λ e. asked commonRules _ _ _ m _ q refl 140 allBlank e refl) (c .before .match .keys3)
+    ∙ ⊎-elim (λ e. asked commonRules _ _ _ m _ q refl 40 allBlank e refl) (λ e. asked commonRules _ _ _ m _ q refl 140 allBlank e refl)
+    (c .before .match .keys3)
 
 returns-4 : tie.Need-returns-4
 unfolding commonRules letters obeys both either fails
-returns-4 c m q = c .same-bytes .ensures ∙ asked commonRules _ _ _ m _ q refl 50 (same (letters "0000")) (c .before .before .match .keys4) refl
+returns-4 c m q = c .same-bytes .ensures ∙ asked commonRules _ _ _ m _ q refl 50 (same (letters "0000"))
+    (c .before .before .match .keys4) refl
 
 returns-5 : tie.Need-returns-5
 unfolding commonRules obeys both either fails
@@ -107,17 +75,19 @@ returns-6 c m q = c .method-holds .ensures ∙ asked commonRules _ _ _ m _ q ref
 returns-7 : tie.Need-returns-7
 unfolding commonRules obeys both either fails widthIn pick
 returns-7 c m q =
+    let at-pre = c .before .before .before .before in
     c .is-real .ensures
     ∙ ap realDate
-    (named-whole 121 _ _ (c .before .before .match .keys7) (c .before .before .before .before .pre) _ (c .before .number2 .ensures) (lit≤ tt))
+    (named-whole 121 _ _ (c .before .before .match .keys7) (at-pre .pre) _ (c .before .number2 .ensures) (lit≤ tt))
     ∙ asked commonRules _ _ _ m _ q refl 121 (λ text. realDate (decimal text)) (c .before .before .match .keys7) refl
 
 returns-8 : tie.Need-returns-8
 unfolding commonRules obeys both either fails widthIn pick
 returns-8 c m q =
+    let at-pre = c .before .before .before .before in
     c .is-real-time .ensures
     ∙ ap realTime
-    (named-whole 122 _ _ (c .before .before .match .keys8) (c .before .before .before .before .pre) _ (c .before .number3 .ensures) (lit≤ tt))
+    (named-whole 122 _ _ (c .before .before .match .keys8) (at-pre .pre) _ (c .before .number3 .ensures) (lit≤ tt))
     ∙ asked commonRules _ _ _ m _ q refl 122 (λ text. realTime (decimal text)) (c .before .before .match .keys8) refl
 
 returns-9 : tie.Need-returns-9
@@ -152,22 +122,22 @@ pub common-holds-spec : {M : Type 1} → statement M
 common-holds-spec =
     tie.close
     (tie.spec
-    number-requires
-    length-of-requires
-    slice-aggregate-one-of
-    slice-aggregate-one-of-2
-    one-of-requires
-    all-blank-requires
-    slice-aggregate-same-bytes
-    same-bytes-requires
-    all-blank-requires-2
-    method-holds-requires
-    number-requires-2
+    (λ c κs. search needs)
+    (λ c κs. search needs)
+    (λ c. search needs)
+    (λ c. search needs)
+    (λ c κs. search needs)
+    (λ c κs. search needs)
+    (λ c. search needs)
+    (λ c κs. search needs)
+    (λ c κs. search needs)
+    (λ c κs. search needs)
+    (λ c κs. search needs)
     cast-t20
-    is-real-requires
-    number-requires-3
+    (λ c κs. search needs)
+    (λ c κs. search needs)
     cast-is-real-time
-    is-real-time-requires
+    (λ c κs. search needs)
     returns
     returns-2
     returns-3

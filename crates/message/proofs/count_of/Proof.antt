@@ -6,15 +6,6 @@ use borrow.Author.Needs.{needs}
 use Rattle.message.proofs.count_of.Statement.{statement}
 use Rattle.message.proofs.count_of.Tie as tie
 
-enum-told : tie.Need-enum-told
-enum-told c = search needs
-
-enum-told-2 : tie.Need-enum-told-2
-enum-told-2 c = search needs
-
-enum-told-3 : tie.Need-enum-told-3
-enum-told-3 c = search needs
-
 returns : tie.Need-returns
 unfolding layout
 returns c = sym (ap (λ k. length (layout k)) (c .enum-told .given .1))
@@ -28,4 +19,4 @@ unfolding layout
 returns-3 c = sym (ap (λ k. length (layout k)) (c .enum-told3 .given .1))
 
 pub count-of-spec : {M : Type 1} → statement M
-count-of-spec = tie.close (tie.spec enum-told enum-told-2 enum-told-3 returns returns-2 returns-3)
+count-of-spec = tie.close (tie.spec (λ c. search needs) (λ c. search needs) (λ c. search needs) returns returns-2 returns-3)

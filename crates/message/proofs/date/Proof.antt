@@ -8,15 +8,6 @@ use borrow.Author.Needs.{needs}
 use Rattle.message.proofs.date.Statement.{statement}
 use Rattle.message.proofs.date.Tie as tie
 
-slice-aggregate-span : tie.Need-slice-aggregate-span
-slice-aggregate-span c = search needs
-
-span-requires : tie.Need-span-requires
-span-requires c κs = search needs
-
-number-requires : tie.Need-number-requires
-number-requires c κs = search needs
-
 cast-t7 : tie.Need-cast-t7
 unfolding total
 cast-t7 c = record { fits = fitting 87 6 _ _ (c .before .span .ensures) _ (lit≤ tt) (c .number .ensures) }
@@ -26,4 +17,4 @@ unfolding dateOfStamp fieldText offsetIn widthIn total pick
 returns c = numbered 87 6 _ _ (c .before .span .ensures) _ (lit≤ tt) (c .number .ensures)
 
 pub date-spec : {M : Type 1} → statement M
-date-spec = tie.close (tie.spec slice-aggregate-span span-requires number-requires cast-t7 returns)
+date-spec = tie.close (tie.spec (λ c. search needs) (λ c κs. search needs) (λ c κs. search needs) cast-t7 returns)

@@ -8,19 +8,10 @@ use borrow.Author.Needs.{needs}
 use Rattle.message.proofs.digest_field.Statement.{statement}
 use Rattle.message.proofs.digest_field.Tie as tie
 
-slice-aggregate-span : tie.Need-slice-aggregate-span
-slice-aggregate-span c = search needs
-
-span-requires : tie.Need-span-requires
-span-requires c κs = search needs
-
-hex-number-requires : tie.Need-hex-number-requires
-hex-number-requires c κs = search needs
-
 returns : tie.Need-returns
 unfolding digestFieldOf fieldText offsetIn widthIn total pick
 returns c = hexed 128 16 _ _ (c .before .span .ensures) _ (lit≤ tt) (c .hex-number .ensures)
 
 pub digest-field-spec : {M : Type 1} → statement M
 digest-field-spec =
-    tie.close (tie.spec slice-aggregate-span span-requires hex-number-requires returns)
+    tie.close (tie.spec (λ c. search needs) (λ c κs. search needs) (λ c κs. search needs) returns)

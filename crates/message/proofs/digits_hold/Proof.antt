@@ -13,12 +13,6 @@ use Rattle.message.proofs.digits_hold.Tie as tie
 abbrev digits : List ℕ
 digits = 2 ∷ 3 ∷ 5 ∷ 10 ∷ 11 ∷ 12 ∷ []
 
-all-digits-requires : tie.Need-all-digits-requires
-all-digits-requires c κs = search needs
-
-all-digits-requires-2 : tie.Need-all-digits-requires-2
-all-digits-requires-2 c κs = search needs
-
 returns : tie.Need-returns
 unfolding member either
 returns c =
@@ -55,4 +49,4 @@ returns-3 c =
 
 pub digits-hold-spec : {M : Type 1} → statement M
 digits-hold-spec =
-    tie.close (tie.spec all-digits-requires all-digits-requires-2 returns returns-2 returns-3)
+    tie.close (tie.spec (λ c κs. search needs) (λ c κs. search needs) returns returns-2 returns-3)

@@ -21,9 +21,6 @@ Inv-loop values code about k blank-over m count i₀ i =
 abbrev μ-loop : tie.MeasureT-loop
 μ-loop values code about k blank-over m count i₀ i = count - i
 
-count-of-requires : tie.Need-count-of-requires Inv-loop μ-loop
-count-of-requires c κs = tt
-
 loop-holds : tie.Need-loop-holds Inv-loop μ-loop
 loop-holds c = (omega arith, refl)
 
@@ -47,8 +44,11 @@ passes-requires c κs =
 
 returns : tie.Need-returns Inv-loop μ-loop
 returns c =
-    let h : c .before .before .before .before .before .loop .i < 22 = omega
-    (arith, few (c .before .before .before .before .before .before .before .before .args .k), c .before .before .before .before .before .before .count-of .ensures) in
+    let h : c .before .before .before .before .before .loop .i < 22 = omega (
+      arith,
+      few (c .before .before .before .before .before .before .before .before .args .k),
+      c .before .before .before .before .before .before .count-of .ensures,
+    ) in
     stops _ _ _ _ _ _ (c .before .before .before .before .before .before .count-of .ensures)
     (c .before .before .before .before .before .loop .inv .1) (c .before .before .before .before .loop-test .taken) _ _
     (c .before .before .before .number-of .ensures)
@@ -63,18 +63,19 @@ add-i c =
       c .before .before .before .before .before .before .count-of .ensures,
     )
 
-loop-less : tie.Need-loop-less Inv-loop μ-loop
-loop-less c = omega arith
-
 loop-again : tie.Need-loop-again Inv-loop μ-loop
 loop-again c =
-    let h : c .before .before .before .before .before .loop .i < 22 = omega
-    (arith, few (c .before .before .before .before .before .before .before .before .args .k), c .before .before .before .before .before .before .count-of .ensures) in (
+    let h : c .before .before .before .before .before .loop .i < 22 = omega (
+      arith,
+      few (c .before .before .before .before .before .before .before .before .args .k),
+      c .before .before .before .before .before .before .count-of .ensures,
+    ) in (
       omega arith,
       goes-on _ _ _ _ _ _ (c .before .before .before .before .before .before .count-of .ensures)
           (c .before .before .before .before .before .loop .inv .1) (c .before .before .before .before .loop-test .taken) _ _
           (c .before .before .before .number-of .ensures)
-          (c .before .passes .ensures _ (lent-field _ _ _ _ h (c .before .before .before .number-of .ensures) (c .before .before .span .ensures)))
+          (c .before .passes .ensures _ (lent-field _ _ _ _ h (c .before .before .before .number-of .ensures)
+          (c .before .before .span .ensures)))
           (not-false _ (c .if1 .left)),
     )
 
@@ -87,7 +88,7 @@ first-broken-spec =
     (tie.spec
     Inv-loop
     μ-loop
-    count-of-requires
+    (λ c κs. tt)
     loop-holds
     number-of-requires
     add-span
@@ -95,6 +96,6 @@ first-broken-spec =
     passes-requires
     returns
     add-i
-    loop-less
+    (λ c. omega arith)
     loop-again
     returns-2)

@@ -4,18 +4,6 @@ use borrow.Author.Needs.{needs}
 use Rattle.message.proofs.first_fault.Statement.{statement}
 use Rattle.message.proofs.first_fault.Tie as tie
 
-first-broken-requires : tie.Need-first-broken-requires
-first-broken-requires c κs = search needs
-
-enum-told : tie.Need-enum-told
-enum-told c = search needs
-
-first-broken-requires-2 : tie.Need-first-broken-requires-2
-first-broken-requires-2 c κs = search needs
-
-enum-known-format : tie.Need-enum-known-format
-enum-known-format c = search needs
-
 returns : tie.Need-returns
 returns c =
     by-values _ _ _ _ _ (c .before .before .before .first-broken .ensures) _ (c .before .enum-told .given .1) (c .first-broken2 .ensures)
@@ -27,9 +15,9 @@ pub first-fault-spec : {M : Type 1} → statement M
 first-fault-spec =
     tie.close
     (tie.spec
-    first-broken-requires
-    enum-told
-    first-broken-requires-2
-    enum-known-format
+    (λ c κs. search needs)
+    (λ c. search needs)
+    (λ c κs. search needs)
+    (λ c. search needs)
     returns
     returns-2)

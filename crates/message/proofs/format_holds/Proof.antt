@@ -8,20 +8,12 @@ use borrow.Author.Needs.{needs}
 use Rattle.message.proofs.format_holds.Statement.{statement}
 use Rattle.message.proofs.format_holds.Tie as tie
 
-all-field-characters-requires : tie.Need-all-field-characters-requires
-all-field-characters-requires c κs = search needs
-
-only-if-requires : tie.Need-only-if-requires
-only-if-requires c κs = search needs
-
 returns : tie.Need-returns
 unfolding formatHolds
 returns c =
     sym
-    (fails-left _ _ (tested _ _ (c .before .only-if .ensures) (c .before .before .all-field-characters .ensures) ∙ not-true _ (c .if1 .taken)))
-
-digits-hold-requires : tie.Need-digits-hold-requires
-digits-hold-requires c κs = search needs
+    (fails-left _ _ (tested _ _ (c .before .only-if .ensures) (c .before .before .all-field-characters .ensures)
+    ∙ not-true _ (c .if1 .taken)))
 
 returns-2 : tie.Need-returns-2
 unfolding formatHolds
@@ -31,9 +23,6 @@ returns-2 c =
     (decides _ _ (tested _ _ (d .before .only-if .ensures) (d .before .before .all-field-characters .ensures) ∙ not-false _ (d .if1 .left))
     ∙ fails-left _ _ (sym (c .before .digits-hold .ensures) ∙ not-true _ (c .if2 .taken)))
 
-hex-holds-requires : tie.Need-hex-holds-requires
-hex-holds-requires c κs = search needs
-
 returns-3 : tie.Need-returns-3
 unfolding formatHolds
 returns-3 c =
@@ -42,9 +31,6 @@ returns-3 c =
     (decides _ _ (tested _ _ (d .before .only-if .ensures) (d .before .before .all-field-characters .ensures) ∙ not-false _ (d .if1 .left))
     ∙ decides _ _ (sym (c .before .before .before .digits-hold .ensures) ∙ not-false _ (c .before .before .if2 .left))
     ∙ fails-left _ _ (sym (c .before .hex-holds .ensures) ∙ not-true _ (c .if3 .taken)))
-
-only-if-requires-2 : tie.Need-only-if-requires-2
-only-if-requires-2 c κs = search needs
 
 returns-4 : tie.Need-returns-4
 unfolding formatHolds
@@ -60,12 +46,12 @@ pub format-holds-spec : {M : Type 1} → statement M
 format-holds-spec =
     tie.close
     (tie.spec
-    all-field-characters-requires
-    only-if-requires
+    (λ c κs. search needs)
+    (λ c κs. search needs)
     returns
-    digits-hold-requires
+    (λ c κs. search needs)
     returns-2
-    hex-holds-requires
+    (λ c κs. search needs)
     returns-3
-    only-if-requires-2
+    (λ c κs. search needs)
     returns-4)

@@ -9,27 +9,10 @@ use borrow.Author.Needs.{needs}
 use Rattle.message.proofs.hex_holds.Statement.{statement}
 use Rattle.message.proofs.hex_holds.Tie as tie
 
-enum-told : tie.Need-enum-told
-enum-told c = search needs
-
-all-hex-digits-requires : tie.Need-all-hex-digits-requires
-all-hex-digits-requires c κs = search needs
-
-enum-told-2 : tie.Need-enum-told-2
-enum-told-2 c = search needs
-
-all-hex-digits-requires-2 : tie.Need-all-hex-digits-requires-2
-all-hex-digits-requires-2 c κs = search needs
-
-enum-told-3 : tie.Need-enum-told-3
-enum-told-3 c = search needs
-
-all-hex-digits-requires-3 : tie.Need-all-hex-digits-requires-3
-all-hex-digits-requires-3 c κs = search needs
-
 returns : tie.Need-returns
 unfolding hexFields member either
-returns c = c .all-hex-digits .ensures ∙ made _ _ (ap hexFields (c .before .before .enum-told .given .1)) _ _ 170 refl (c .before .match2 .keys1)
+returns c = c .all-hex-digits .ensures ∙ made _ _ (ap hexFields (c .before .before .enum-told .given .1)) _ _ 170 refl
+    (c .before .match2 .keys1)
 
 returns-2 : tie.Need-returns-2
 unfolding hexFields
@@ -37,7 +20,8 @@ returns-2 c = not-made _ _ (ap hexFields (c .before .enum-told .given .1)) _ _ (
 
 returns-3 : tie.Need-returns-3
 unfolding hexFields member either
-returns-3 c = c .all-hex-digits2 .ensures ∙ made _ _ (ap hexFields (c .before .before .enum-told2 .given .1)) _ _ 150 refl (c .before .match3 .keys1)
+returns-3 c = c .all-hex-digits2 .ensures ∙ made _ _ (ap hexFields (c .before .before .enum-told2 .given .1)) _ _ 150 refl
+    (c .before .match3 .keys1)
 
 returns-4 : tie.Need-returns-4
 unfolding hexFields
@@ -48,7 +32,8 @@ unfolding hexFields member either
 returns-5 c =
     c .all-hex-digits3 .ensures
     ∙ ⊎-elim (made _ _ (ap hexFields (c .before .before .enum-told3 .given .1)) _ _ 150 refl)
-    (⊎-elim (made _ _ (ap hexFields (c .before .before .enum-told3 .given .1)) _ _ 160 refl) (made _ _ (ap hexFields (c .before .before .enum-told3 .given .1)) _ _ 170 refl))
+    (⊎-elim (made _ _ (ap hexFields (c .before .before .enum-told3 .given .1)) _ _ 160 refl)
+    (made _ _ (ap hexFields (c .before .before .enum-told3 .given .1)) _ _ 170 refl))
     (c .before .match4 .keys1)
 
 returns-6 : tie.Need-returns-6
@@ -61,12 +46,12 @@ pub hex-holds-spec : {M : Type 1} → statement M
 hex-holds-spec =
     tie.close
     (tie.spec
-    enum-told
-    all-hex-digits-requires
-    enum-told-2
-    all-hex-digits-requires-2
-    enum-told-3
-    all-hex-digits-requires-3
+    (λ c. search needs)
+    (λ c κs. search needs)
+    (λ c. search needs)
+    (λ c κs. search needs)
+    (λ c. search needs)
+    (λ c κs. search needs)
     returns
     returns-2
     returns-3

@@ -12,39 +12,29 @@ use borrow.Author.Needs.{needs}
 use Rattle.message.proofs.method.Statement.{statement}
 use Rattle.message.proofs.method.Tie as tie
 
-slice-aggregate-span : tie.Need-slice-aggregate-span
-slice-aggregate-span c = search needs
-
-span-requires : tie.Need-span-requires
-span-requires c κs = search needs
-
-slice-aggregate-same-bytes : tie.Need-slice-aggregate-same-bytes
-slice-aggregate-same-bytes c = search needs
-
-same-bytes-requires : tie.Need-same-bytes-requires
-same-bytes-requires c κs = search needs
-
 returns : tie.Need-returns
 unfolding methodOf letters fieldText offsetIn widthIn total pick
 returns c =
     sym
     (picks _ _ _
-    (ap (λ (t : List ℕ). same t (letters "SKE")) (sym (c .before .before .before .span .ensures)) ∙ sym (c .before .same-bytes .ensures) ∙ c .if1 .taken))
+    (ap (λ (t : List ℕ). same t (letters "SKE")) (sym (c .before .before .before .span .ensures)) ∙ sym (c .before .same-bytes .ensures)
+    ∙ c .if1 .taken))
 
 returns-2 : tie.Need-returns-2
 unfolding methodOf letters fieldText offsetIn widthIn total pick
 returns-2 c =
     sym
     (skips _ _ _
-    (ap (λ (t : List ℕ). same t (letters "SKE")) (sym (c .before .before .before .span .ensures)) ∙ sym (c .before .same-bytes .ensures) ∙ c .if1 .left))
+    (ap (λ (t : List ℕ). same t (letters "SKE")) (sym (c .before .before .before .span .ensures)) ∙ sym (c .before .same-bytes .ensures)
+    ∙ c .if1 .left))
 
 pub method-spec : {M : Type 1} → statement M
 method-spec =
     tie.close
     (tie.spec
-    slice-aggregate-span
-    span-requires
-    slice-aggregate-same-bytes
-    same-bytes-requires
+    (λ c. search needs)
+    (λ c κs. search needs)
+    (λ c. search needs)
+    (λ c κs. search needs)
     returns
     returns-2)

@@ -6,15 +6,9 @@ use borrow.Author.Needs.{needs}
 use Rattle.message.proofs.number_of.Statement.{statement}
 use Rattle.message.proofs.number_of.Tie as tie
 
-mul-result : tie.Need-mul-result
-mul-result c = search needs
-
-array-read-result : tie.Need-array-read-result
-array-read-result c = search needs
-
 returns : tie.Need-returns
 unfolding both
 returns c = ruled numberAt 22 (c .args .i) (c .pre) numbers refl tt
 
 pub number-of-spec : {M : Type 1} → statement M
-number-of-spec = tie.close (tie.spec mul-result array-read-result returns)
+number-of-spec = tie.close (tie.spec (λ c. search needs) (λ c. search needs) returns)

@@ -1,21 +1,15 @@
 -- The first text decides where it is the same, else the second.
 use mathlib.Core.Path.{sym, _∙_}
 use Rattle.ground.proofs.Choices.{either-left, either-decides}
+use Rattle.ground.proofs.Bools.{either-false}
 use Rattle.message.specs.Rules.{oneOf}
-use Rattle.message.proofs.Tests.{either-false}
 use borrow.Author.Needs.{needs}
 use Rattle.message.proofs.one_of.Statement.{statement}
 use Rattle.message.proofs.one_of.Tie as tie
 
-same-bytes-requires : tie.Need-same-bytes-requires
-same-bytes-requires c κs = search needs
-
 returns : tie.Need-returns
 unfolding oneOf
 returns c = sym (either-left _ _ (sym (c .before .same-bytes .ensures) ∙ c .if1 .taken))
-
-same-bytes-requires-2 : tie.Need-same-bytes-requires-2
-same-bytes-requires-2 c κs = search needs
 
 returns-2 : tie.Need-returns-2
 unfolding oneOf
@@ -24,4 +18,4 @@ returns-2 c =
     ∙ sym (either-decides _ _ (sym (c .before .before .same-bytes .ensures) ∙ c .before .if1 .left) ∙ either-false _)
 
 pub one-of-spec : {M : Type 1} → statement M
-one-of-spec = tie.close (tie.spec same-bytes-requires returns same-bytes-requires-2 returns-2)
+one-of-spec = tie.close (tie.spec (λ c κs. search needs) returns (λ c κs. search needs) returns-2)

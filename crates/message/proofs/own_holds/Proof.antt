@@ -11,53 +11,19 @@ use borrow.Author.Needs.{needs}
 use Rattle.message.proofs.own_holds.Statement.{statement}
 use Rattle.message.proofs.own_holds.Tie as tie
 
-enum-told : tie.Need-enum-told
-enum-told c = search needs
-
-all-blank-requires : tie.Need-all-blank-requires
-all-blank-requires c κs = search needs
-
-request-holds-requires : tie.Need-request-holds-requires
-request-holds-requires c κs = search needs
-
-enum-told-2 : tie.Need-enum-told-2
-enum-told-2 c = search needs
-
-slice-aggregate-one-of : tie.Need-slice-aggregate-one-of
-slice-aggregate-one-of c = search needs
-
-slice-aggregate-one-of-2 : tie.Need-slice-aggregate-one-of-2
-slice-aggregate-one-of-2 c = search needs
-
-one-of-requires : tie.Need-one-of-requires
-one-of-requires c κs = search needs
-
-enum-told-3 : tie.Need-enum-told-3
-enum-told-3 c = search needs
-
-slice-aggregate-one-of-3 : tie.Need-slice-aggregate-one-of-3
-slice-aggregate-one-of-3 c = search needs
-
-slice-aggregate-one-of-4 : tie.Need-slice-aggregate-one-of-4
-slice-aggregate-one-of-4 c = search needs
-
-one-of-requires-2 : tie.Need-one-of-requires-2
-one-of-requires-2 c κs = search needs
-
-request-holds-requires-2 : tie.Need-request-holds-requires-2
-request-holds-requires-2 c κs = search needs
-
 returns : tie.Need-returns
 unfolding ownRules obeys both either fails
 returns c m q =
     c .all-blank .ensures
     ∙ ⊎-elim (λ e. asked ownRules _ _ _ m _ q (c .before .before .enum-told .given .1) 130 allBlank e refl)
-    (⊎-elim (λ e. asked ownRules _ _ _ m _ q (c .before .before .enum-told .given .1) 150 allBlank e refl) (λ e. asked ownRules _ _ _ m _ q (c .before .before .enum-told .given .1) 160 allBlank e refl))
+    (⊎-elim (λ e. asked ownRules _ _ _ m _ q (c .before .before .enum-told .given .1) 150 allBlank e refl)
+    (λ e. asked ownRules _ _ _ m _ q (c .before .before .enum-told .given .1) 160 allBlank e refl))
     (c .before .match2 .keys1)
 
 returns-2 : tie.Need-returns-2
 unfolding ownRules obeys both either fails
-returns-2 c m q = c .request-holds .ensures ∙ asked ownRules _ _ _ m _ q (c .before .before .enum-told .given .1) 180 (oneOf (letters "0" ∷ letters "1" ∷ letters "2" ∷ [])) (c .before .match2 .keys2) refl
+returns-2 c m q = c .request-holds .ensures ∙ asked ownRules _ _ _ m _ q (c .before .before .enum-told .given .1) 180
+    (oneOf (letters "0" ∷ letters "1" ∷ letters "2" ∷ [])) (c .before .match2 .keys2) refl
 
 returns-3 : tie.Need-returns-3
 unfolding ownRules
@@ -75,8 +41,11 @@ returns-3 c m q = unasked ownRules _ _ _ m (c .before .enum-told .given .1) (
 returns-4 : tie.Need-returns-4
 unfolding ownRules letters obeys both either fails
 returns-4 c m q =
+    let at-match3 = c .before .before .before in
+    let at-enum-told2 = at-match3 .before in
     c .one-of .ensures
-    ∙ asked ownRules _ _ _ m _ q (c .before .before .before .before .enum-told2 .given .1) 130 (oneOf (letters "S" ∷ letters "A" ∷ [])) (c .before .before .before .match3 .keys1) refl
+    ∙ asked ownRules _ _ _ m _ q (at-enum-told2 .enum-told2 .given .1) 130 (oneOf (letters "S" ∷ letters "A" ∷ []))
+    (at-match3 .match3 .keys1) refl
 
 returns-5 : tie.Need-returns-5
 unfolding ownRules
@@ -85,12 +54,16 @@ returns-5 c m q = unasked ownRules _ _ _ m (c .before .enum-told2 .given .1) (c 
 returns-6 : tie.Need-returns-6
 unfolding ownRules letters obeys both either fails
 returns-6 c m q =
+    let at-match4 = c .before .before .before in
+    let at-enum-told3 = at-match4 .before in
     c .one-of2 .ensures
-    ∙ asked ownRules _ _ _ m _ q (c .before .before .before .before .enum-told3 .given .1) 130 (oneOf (letters "S" ∷ letters "A" ∷ [])) (c .before .before .before .match4 .keys1) refl
+    ∙ asked ownRules _ _ _ m _ q (at-enum-told3 .enum-told3 .given .1) 130 (oneOf (letters "S" ∷ letters "A" ∷ []))
+    (at-match4 .match4 .keys1) refl
 
 returns-7 : tie.Need-returns-7
 unfolding ownRules obeys both either fails
-returns-7 c m q = c .request-holds2 .ensures ∙ asked ownRules _ _ _ m _ q (c .before .before .enum-told3 .given .1) 180 (oneOf (letters "0" ∷ letters "1" ∷ letters "2" ∷ [])) (c .before .match4 .keys2) refl
+returns-7 c m q = c .request-holds2 .ensures ∙ asked ownRules _ _ _ m _ q (c .before .before .enum-told3 .given .1) 180
+    (oneOf (letters "0" ∷ letters "1" ∷ letters "2" ∷ [])) (c .before .match4 .keys2) refl
 
 returns-8 : tie.Need-returns-8
 unfolding ownRules
@@ -100,18 +73,18 @@ pub own-holds-spec : {M : Type 1} → statement M
 own-holds-spec =
     tie.close
     (tie.spec
-    enum-told
-    all-blank-requires
-    request-holds-requires
-    enum-told-2
-    slice-aggregate-one-of
-    slice-aggregate-one-of-2
-    one-of-requires
-    enum-told-3
-    slice-aggregate-one-of-3
-    slice-aggregate-one-of-4
-    one-of-requires-2
-    request-holds-requires-2
+    (λ c. search needs)
+    (λ c κs. search needs)
+    (λ c κs. search needs)
+    (λ c. search needs)
+    (λ c. search needs)
+    (λ c. search needs)
+    (λ c κs. search needs)
+    (λ c. search needs)
+    (λ c. search needs)
+    (λ c. search needs)
+    (λ c κs. search needs)
+    (λ c κs. search needs)
     returns
     returns-2
     returns-3

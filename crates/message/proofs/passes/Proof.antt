@@ -7,19 +7,13 @@ use borrow.Author.Needs.{needs}
 use Rattle.message.proofs.passes.Statement.{statement}
 use Rattle.message.proofs.passes.Tie as tie
 
-value-holds-requires : tie.Need-value-holds-requires
-value-holds-requires c κs = search needs
-
 returns : tie.Need-returns
 unfolding passesIn pick
 returns c m q = rw (c .before .if1 .taken) (c .value-holds .ensures m q)
-
-format-holds-requires : tie.Need-format-holds-requires
-format-holds-requires c κs = search needs
 
 returns-2 : tie.Need-returns-2
 unfolding passesIn pick
 returns-2 c m q = rw (c .before .if1 .left) (c .format-holds .ensures ∙ ap (formatHolds _ _ _) (sym q))
 
 pub passes-spec : {M : Type 1} → statement M
-passes-spec = tie.close (tie.spec value-holds-requires returns format-holds-requires returns-2)
+passes-spec = tie.close (tie.spec (λ c κs. search needs) returns (λ c κs. search needs) returns-2)

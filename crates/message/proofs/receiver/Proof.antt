@@ -10,18 +10,6 @@ use borrow.Author.Needs.{needs}
 use Rattle.message.proofs.receiver.Statement.{statement}
 use Rattle.message.proofs.receiver.Tie as tie
 
-slice-aggregate-copy : tie.Need-slice-aggregate-copy
-slice-aggregate-copy c = search needs
-
-slice-aggregate-span : tie.Need-slice-aggregate-span
-slice-aggregate-span c = search needs
-
-span-requires : tie.Need-span-requires
-span-requires c κs = search needs
-
-copy-requires : tie.Need-copy-requires
-copy-requires c κs = search needs
-
 returns : tie.Need-returns
 unfolding receiverOf offsetIn total pick
 returns c =
@@ -31,4 +19,4 @@ returns c =
 pub receiver-spec : {M : Type 1} → statement M
 receiver-spec =
     tie.close
-    (tie.spec slice-aggregate-copy slice-aggregate-span span-requires copy-requires returns)
+    (tie.spec (λ c. search needs) (λ c. search needs) (λ c κs. search needs) (λ c κs. search needs) returns)

@@ -4,18 +4,6 @@ use borrow.Author.Needs.{needs}
 use Rattle.message.proofs.span.Statement.{statement}
 use Rattle.message.proofs.span.Tie as tie
 
-start-of-requires : tie.Need-start-of-requires
-start-of-requires c κs = search needs
-
-least-requires : tie.Need-least-requires
-least-requires c κs = search needs
-
-start-of-requires-2 : tie.Need-start-of-requires-2
-start-of-requires-2 c κs = search needs
-
-least-requires-2 : tie.Need-least-requires-2
-least-requires-2 c κs = search needs
-
 sub-result : tie.Need-sub-result
 sub-result c =
     cut-ordered _ _ (c .before .before .before .before .before .args .m .now)
@@ -28,9 +16,6 @@ part-result-start c =
     (ordered _ _ (c .before .before .before .before .before .pre .0)) (c .before .before .before .start-of .ensures)
     (c .before .start-of2 .ensures) (c .before .before .least .ensures) (c .least2 .ensures)
 
-part-result-end : tie.Need-part-result-end
-part-result-end c = search needs
-
 returns : tie.Need-returns
 returns c =
     cut-part _ _ _ (ordered _ _ (c .before .before .before .before .before .before .pre .0))
@@ -41,11 +26,11 @@ pub span-spec : {M : Type 1} → statement M
 span-spec =
     tie.close
     (tie.spec
-    start-of-requires
-    least-requires
-    start-of-requires-2
-    least-requires-2
+    (λ c κs. search needs)
+    (λ c κs. search needs)
+    (λ c κs. search needs)
+    (λ c κs. search needs)
     sub-result
     part-result-start
-    part-result-end
+    (λ c. search needs)
     returns)

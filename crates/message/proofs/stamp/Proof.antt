@@ -8,18 +8,9 @@ use borrow.Author.Needs.{needs}
 use Rattle.message.proofs.stamp.Statement.{statement}
 use Rattle.message.proofs.stamp.Tie as tie
 
-slice-aggregate-span : tie.Need-slice-aggregate-span
-slice-aggregate-span c = search needs
-
-span-requires : tie.Need-span-requires
-span-requires c κs = search needs
-
-number-requires : tie.Need-number-requires
-number-requires c κs = search needs
-
 returns : tie.Need-returns
 unfolding stampOf stampTextOf offsetIn total pick
 returns c = numbered 87 15 _ _ (c .before .span .ensures) _ (lit≤ tt) (c .number .ensures)
 
 pub stamp-spec : {M : Type 1} → statement M
-stamp-spec = tie.close (tie.spec slice-aggregate-span span-requires number-requires returns)
+stamp-spec = tie.close (tie.spec (λ c. search needs) (λ c κs. search needs) (λ c κs. search needs) returns)

@@ -8,15 +8,9 @@ use borrow.Author.Needs.{needs}
 use Rattle.message.proofs.start_of.Statement.{statement}
 use Rattle.message.proofs.start_of.Tie as tie
 
-mul-result : tie.Need-mul-result
-mul-result c = search needs
-
-array-read-result : tie.Need-array-read-result
-array-read-result c = search needs
-
 returns : tie.Need-returns
 unfolding both pick total offsetIn
 returns c = ruled (λ i. total (take i fields)) 23 (c .args .i) (search needs) starts refl tt
 
 pub start-of-spec : {M : Type 1} → statement M
-start-of-spec = tie.close (tie.spec mul-result array-read-result returns)
+start-of-spec = tie.close (tie.spec (λ c. search needs) (λ c. search needs) returns)

@@ -8,15 +8,6 @@ use borrow.Author.Needs.{needs}
 use Rattle.message.proofs.transport_generation.Statement.{statement}
 use Rattle.message.proofs.transport_generation.Tie as tie
 
-slice-aggregate-span : tie.Need-slice-aggregate-span
-slice-aggregate-span c = search needs
-
-span-requires : tie.Need-span-requires
-span-requires c κs = search needs
-
-number-requires : tie.Need-number-requires
-number-requires c κs = search needs
-
 cast-result : tie.Need-cast-result
 unfolding total
 cast-result c = record { fits = fitting 85 1 _ _ (c .before .span .ensures) _ (lit≤ tt) (c .number .ensures) }
@@ -27,4 +18,4 @@ returns c = numbered 85 1 _ _ (c .before .span .ensures) _ (lit≤ tt) (c .numbe
 
 pub transport-generation-spec : {M : Type 1} → statement M
 transport-generation-spec =
-    tie.close (tie.spec slice-aggregate-span span-requires number-requires cast-result returns)
+    tie.close (tie.spec (λ c. search needs) (λ c κs. search needs) (λ c κs. search needs) cast-result returns)

@@ -7,15 +7,9 @@ use borrow.Author.Needs.{needs}
 use Rattle.message.proofs.value_holds.Statement.{statement}
 use Rattle.message.proofs.value_holds.Tie as tie
 
-common-holds-requires : tie.Need-common-holds-requires
-common-holds-requires c κs = search needs
-
 returns : tie.Need-returns
 returns c m q =
     sym (obeys-append _ _ _ m ∙ fails-left _ _ (sym (c .before .common-holds .ensures m q) ∙ not-true _ (c .if1 .taken)))
-
-own-holds-requires : tie.Need-own-holds-requires
-own-holds-requires c κs = search needs
 
 returns-2 : tie.Need-returns-2
 returns-2 c m q =
@@ -24,4 +18,4 @@ returns-2 c m q =
     (obeys-append _ _ _ m ∙ decides _ _ (sym (c .before .before .common-holds .ensures m q) ∙ not-false _ (c .before .if1 .left)))
 
 pub value-holds-spec : {M : Type 1} → statement M
-value-holds-spec = tie.close (tie.spec common-holds-requires returns own-holds-requires returns-2)
+value-holds-spec = tie.close (tie.spec (λ c κs. search needs) returns (λ c κs. search needs) returns-2)

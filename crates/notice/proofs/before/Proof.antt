@@ -10,18 +10,6 @@ use borrow.Author.Needs.{needs}
 use Rattle.notice.proofs.before.Statement.{statement}
 use Rattle.notice.proofs.before.Tie as tie
 
-code-place-requires : tie.Need-code-place-requires
-code-place-requires c κs = search needs
-
-mul-at : tie.Need-mul-at
-mul-at c = search needs
-
-slice-aggregate-row : tie.Need-slice-aggregate-row
-slice-aggregate-row c = search needs
-
-row-requires : tie.Need-row-requires
-row-requires c κs = search needs
-
 returns : tie.Need-returns
 unfolding both padded letters
 returns c =
@@ -32,4 +20,4 @@ returns c =
 
 pub before-spec : {M : Type 1} → statement M
 before-spec =
-    tie.close (tie.spec code-place-requires mul-at slice-aggregate-row row-requires returns)
+    tie.close (tie.spec (λ c κs. search needs) (λ c. search needs) (λ c. search needs) (λ c κs. search needs) returns)

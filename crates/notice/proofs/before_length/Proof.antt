@@ -9,15 +9,6 @@ use borrow.Author.Needs.{needs}
 use Rattle.notice.proofs.before_length.Statement.{statement}
 use Rattle.notice.proofs.before_length.Tie as tie
 
-code-place-requires : tie.Need-code-place-requires
-code-place-requires c κs = search needs
-
-mul-result : tie.Need-mul-result
-mul-result c = search needs
-
-array-read-result : tie.Need-array-read-result
-array-read-result c = search needs
-
 returns : tie.Need-returns
 unfolding letters
 returns c =
@@ -25,4 +16,4 @@ returns c =
     row-at (λ k. length (k .before)) codes noCode 0 (p .result) (omega arith) ∙ ap (λ k. length (k .before)) (code-at _ _ (p .ensures .0))
 
 pub before-length-spec : {M : Type 1} → statement M
-before-length-spec = tie.close (tie.spec code-place-requires mul-result array-read-result returns)
+before-length-spec = tie.close (tie.spec (λ c κs. search needs) (λ c. search needs) (λ c. search needs) returns)

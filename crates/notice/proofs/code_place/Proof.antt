@@ -6,14 +6,8 @@ use Rattle.notice.proofs.Found.{place-le}
 use Rattle.notice.proofs.code_place.Statement.{statement}
 use Rattle.notice.proofs.code_place.Tie as tie
 
-slice-aggregate-place-of : tie.Need-slice-aggregate-place-of
-slice-aggregate-place-of c = search needs
-
-place-of-requires : tie.Need-place-of-requires
-place-of-requires c κs = search needs
-
 returns : tie.Need-returns
 returns c = (c .place-of .ensures, omega (arith, place-le (c .before .before .args .code) codeNumbers))
 
 pub code-place-spec : {M : Type 1} → statement M
-code-place-spec = tie.close (tie.spec slice-aggregate-place-of place-of-requires returns)
+code-place-spec = tie.close (tie.spec (λ c. search needs) (λ c κs. search needs) returns)

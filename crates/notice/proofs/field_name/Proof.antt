@@ -10,18 +10,6 @@ use borrow.Author.Needs.{needs}
 use Rattle.notice.proofs.field_name.Statement.{statement}
 use Rattle.notice.proofs.field_name.Tie as tie
 
-field-place-requires : tie.Need-field-place-requires
-field-place-requires c κs = search needs
-
-mul-at : tie.Need-mul-at
-mul-at c = search needs
-
-slice-aggregate-row : tie.Need-slice-aggregate-row
-slice-aggregate-row c = search needs
-
-row-requires : tie.Need-row-requires
-row-requires c κs = search needs
-
 returns : tie.Need-returns
 unfolding both padded letters
 returns c =
@@ -32,4 +20,4 @@ returns c =
 
 pub field-name-spec : {M : Type 1} → statement M
 field-name-spec =
-    tie.close (tie.spec field-place-requires mul-at slice-aggregate-row row-requires returns)
+    tie.close (tie.spec (λ c κs. search needs) (λ c. search needs) (λ c. search needs) (λ c κs. search needs) returns)

@@ -9,15 +9,6 @@ use borrow.Author.Needs.{needs}
 use Rattle.notice.proofs.name_length.Statement.{statement}
 use Rattle.notice.proofs.name_length.Tie as tie
 
-field-place-requires : tie.Need-field-place-requires
-field-place-requires c κs = search needs
-
-mul-result : tie.Need-mul-result
-mul-result c = search needs
-
-array-read-result : tie.Need-array-read-result
-array-read-result c = search needs
-
 returns : tie.Need-returns
 unfolding letters
 returns c =
@@ -25,4 +16,4 @@ returns c =
     row-at length names [] 0 (p .result) (omega arith) ∙ ap length (name-at _ _ (p .ensures .0))
 
 pub name-length-spec : {M : Type 1} → statement M
-name-length-spec = tie.close (tie.spec field-place-requires mul-result array-read-result returns)
+name-length-spec = tie.close (tie.spec (λ c κs. search needs) (λ c. search needs) (λ c. search needs) returns)

@@ -8,12 +8,6 @@ use borrow.Author.Needs.{needs}
 use Rattle.notice.proofs.names_field.Statement.{statement}
 use Rattle.notice.proofs.names_field.Tie as tie
 
-code-place-requires : tie.Need-code-place-requires
-code-place-requires c κs = search needs
-
-array-read-result : tie.Need-array-read-result
-array-read-result c = search needs
-
 returns : tie.Need-returns
 unfolding pick
 returns c =
@@ -21,4 +15,4 @@ returns c =
     flag-at (λ k. k .names) 78 45 refl codes noCode (p .result) (omega arith) ∙ ap (λ k. k .names) (code-at _ _ (p .ensures .0))
 
 pub names-field-spec : {M : Type 1} → statement M
-names-field-spec = tie.close (tie.spec code-place-requires array-read-result returns)
+names-field-spec = tie.close (tie.spec (λ c κs. search needs) (λ c. search needs) returns)

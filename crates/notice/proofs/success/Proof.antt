@@ -6,16 +6,15 @@ use borrow.Author.Needs.{needs}
 use Rattle.notice.proofs.success.Statement.{statement}
 use Rattle.notice.proofs.success.Tie as tie
 
-is-accepted-requires : tie.Need-is-accepted-requires
-is-accepted-requires c κs = search needs
-
 returns : tie.Need-returns
 unfolding letters
-returns c = sym (picks _ (letters "K") (letters "E") (sym (c .before .before .before .is-accepted .ensures) ∙ c .before .before .if1 .taken))
+returns c = sym (picks _ (letters "K") (letters "E") (sym (c .before .before .before .is-accepted .ensures)
+    ∙ c .before .before .if1 .taken))
 
 returns-2 : tie.Need-returns-2
 unfolding letters
-returns-2 c = sym (skips _ (letters "K") (letters "E") (sym (c .before .before .before .is-accepted .ensures) ∙ c .before .before .if1 .left))
+returns-2 c = sym (skips _ (letters "K") (letters "E") (sym (c .before .before .before .is-accepted .ensures)
+    ∙ c .before .before .if1 .left))
 
 pub success-spec : {M : Type 1} → statement M
-success-spec = tie.close (tie.spec is-accepted-requires returns returns-2)
+success-spec = tie.close (tie.spec (λ c κs. search needs) returns returns-2)

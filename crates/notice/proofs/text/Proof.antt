@@ -14,23 +14,11 @@ use borrow.Author.Needs.{needs}
 use Rattle.notice.proofs.text.Statement.{statement}
 use Rattle.notice.proofs.text.Tie as tie
 
-before-requires : tie.Need-before-requires
-before-requires c κs = search needs
-
-names-field-requires : tie.Need-names-field-requires
-names-field-requires c κs = search needs
-
 returns : tie.Need-returns
 returns c =
     let s = c .before .before .before in
     c .before .before .before2 .ensures
     ∙ ap (padded 51) (unnamed (s .args .code) (s .args .field) (sym (c .before .names-field .ensures) ∙ not-true _ (c .if1 .taken)))
-
-before-length-requires : tie.Need-before-length-requires
-before-length-requires c κs = search needs
-
-field-name-requires : tie.Need-field-name-requires
-field-name-requires c κs = search needs
 
 joined-requires : tie.Need-joined-requires
 joined-requires c κs = omega (arith, code-room (c .before .before .before .before .before .args .code))
@@ -38,13 +26,13 @@ joined-requires c κs = omega (arith, code-room (c .before .before .before .befo
 returns-2 : tie.Need-returns-2
 returns-2 c =
     let s = c .before .before .before .before .before .before .before in
-    let e = sym (c .before .before .before .before .before .names-field .ensures) ∙ not-false _ (c .before .before .before .before .if1 .left) in
-    join-filled 51 _ _ (fieldName (s .args .field)) _ _ _ (omega (arith, code-room (s .args .code))) (c .before .before .before .before-length .ensures)
-    (c .before .before .before .before .before .before .before2 .ensures) (c .before .before .field-name .ensures) (c .before .joined .ensures)
+    let e = sym (c .before .before .before .before .before .names-field .ensures)
+    ∙ not-false _ (c .before .before .before .before .if1 .left) in
+    join-filled 51 _ _ (fieldName (s .args .field)) _ _ _ (omega (arith, code-room (s .args .code)))
+    (c .before .before .before .before-length .ensures)
+    (c .before .before .before .before .before .before .before2 .ensures) (c .before .before .field-name .ensures)
+    (c .before .joined .ensures)
     ∙ ap (padded 51) (named (s .args .code) (s .args .field) e (c .if2 .taken))
-
-name-length-requires : tie.Need-name-length-requires
-name-length-requires c κs = search needs
 
 add-end : tie.Need-add-end
 add-end c =
@@ -54,7 +42,12 @@ add-end c =
 joined-requires-2 : tie.Need-joined-requires-2
 joined-requires-2 c κs =
     let s = c .before .before .before .before .before .before .before .before .before .before in
-    omega (arith, name-room (s .args .code) (s .args .field) (sym (c .before .before .before .before .before .before .before .before .names-field .ensures) ∙ not-false _ (c .before .before .before .before .before .before .before .if1 .left)))
+    omega (
+      arith,
+      name-room (s .args .code) (s .args .field)
+          (sym (c .before .before .before .before .before .before .before .before .names-field .ensures)
+          ∙ not-false _ (c .before .before .before .before .before .before .before .if1 .left)),
+    )
 
 returns-3 : tie.Need-returns-3
 unfolding padded letters
@@ -62,10 +55,13 @@ returns-3 c =
     let s = c .before .before .before .before .before .before .before .before .before .before .before in
     let l = c .before .before .before .before .before .before .before .before-length in
     let m = c .before .before .before .name-length in
-    let e = sym (c .before .before .before .before .before .before .before .before .before .names-field .ensures) ∙ not-false _ (c .before .before .before .before .before .before .before .before .if1 .left) in
+    let e = sym (c .before .before .before .before .before .before .before .before .before .names-field .ensures)
+    ∙ not-false _ (c .before .before .before .before .before .before .before .before .if1 .left) in
     let b = codeIn (s .args .code) codes .before in
     let n = fieldName (s .args .field) in
-    let j = join-filled 51 _ b n _ _ _ (omega (arith, code-room (s .args .code))) (l .ensures) (c .before .before .before .before .before .before .before .before .before .before .before2 .ensures) (c .before .before .before .before .before .before .field-name .ensures) (c .before .before .before .before .before .joined .ensures) in
+    let j = join-filled 51 _ b n _ _ _ (omega (arith, code-room (s .args .code))) (l .ensures)
+    (c .before .before .before .before .before .before .before .before .before .before .before2 .ensures)
+    (c .before .before .before .before .before .before .field-name .ensures) (c .before .before .before .before .before .joined .ensures) in
     join-filled 51 (l .result + m .result) (b ++ n) (letters ": SUO-SANOMA <> VAR-SANOMA") _ _ _
     (omega (arith, length-append b n, name-room (s .args .code) (s .args .field) e))
     (omega (arith, length-append b n, l .ensures, m .ensures))
@@ -78,14 +74,14 @@ pub text-spec : {M : Type 1} → statement M
 text-spec =
     tie.close
     (tie.spec
-    before-requires
-    names-field-requires
+    (λ c κs. search needs)
+    (λ c κs. search needs)
     returns
-    before-length-requires
-    field-name-requires
+    (λ c κs. search needs)
+    (λ c κs. search needs)
     joined-requires
     returns-2
-    name-length-requires
+    (λ c κs. search needs)
     add-end
     joined-requires-2
     returns-3)

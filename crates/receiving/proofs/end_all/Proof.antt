@@ -5,18 +5,6 @@ use borrow.Author.Needs.{needs}
 use Rattle.receiving.proofs.end_all.Statement.{statement}
 use Rattle.receiving.proofs.end_all.Tie as tie
 
-one-end-requires : tie.Need-one-end-requires
-one-end-requires c κs = search needs
-
-same-length : tie.Need-same-length
-same-length c = search needs
-
-same-length-2 : tie.Need-same-length-2
-same-length-2 c = search needs
-
-same-length-3 : tie.Need-same-length-3
-same-length-3 c = search needs
-
 returns : tie.Need-returns
 returns c =
     let d = c .before .before .before .before .before .before .before in
@@ -30,15 +18,6 @@ one-end-requires-2 c κs =
       omega (arith, counts-one (d .one-end .ensures), p .1),
     )
 
-same-length-4 : tie.Need-same-length-4
-same-length-4 c = search needs
-
-same-length-5 : tie.Need-same-length-5
-same-length-5 c = search needs
-
-same-length-6 : tie.Need-same-length-6
-same-length-6 c = search needs
-
 returns-2 : tie.Need-returns-2
 returns-2 c =
     let i = c .before .before .before .before .before .before .before .before .before .before .before in
@@ -50,13 +29,13 @@ pub end-all-spec : {M : Type 1} → statement M
 end-all-spec =
     tie.close
     (tie.spec
-    one-end-requires
-    same-length
-    same-length-2
-    same-length-3
+    (λ c κs. search needs)
+    (λ c. search needs)
+    (λ c. search needs)
+    (λ c. search needs)
     returns
     one-end-requires-2
-    same-length-4
-    same-length-5
-    same-length-6
+    (λ c. search needs)
+    (λ c. search needs)
+    (λ c. search needs)
     returns-2)

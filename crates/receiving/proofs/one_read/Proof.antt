@@ -5,12 +5,6 @@ use borrow.Author.Needs.{needs}
 use Rattle.receiving.proofs.one_read.Statement.{statement}
 use Rattle.receiving.proofs.one_read.Tie as tie
 
-slice-aggregate-read : tie.Need-slice-aggregate-read
-slice-aggregate-read c = search needs
-
-read-requires : tie.Need-read-requires
-read-requires c κs = search needs
-
 add-reached : tie.Need-add-reached
 add-reached c =
     let d = c .before .before .before .before .before in
@@ -23,15 +17,6 @@ note-requires c κs =
     let p = d .before .before .before .before .before .before .before .pre in
     (read-fits _ _ _ (p .0) (d .read .ensures) .1, p .2)
 
-same-length : tie.Need-same-length
-same-length c = search needs
-
-same-length-2 : tie.Need-same-length-2
-same-length-2 c = search needs
-
-same-length-3 : tie.Need-same-length-3
-same-length-3 c = search needs
-
 returns : tie.Need-returns
 returns c =
     called-read _ _ _ _ _ (c .before .before .before .before .before .before .before .before .before .before .before .before .read .ensures)
@@ -41,11 +26,11 @@ pub one-read-spec : {M : Type 1} → statement M
 one-read-spec =
     tie.close
     (tie.spec
-    slice-aggregate-read
-    read-requires
+    (λ c. search needs)
+    (λ c κs. search needs)
     add-reached
     note-requires
-    same-length
-    same-length-2
-    same-length-3
+    (λ c. search needs)
+    (λ c. search needs)
+    (λ c. search needs)
     returns)

@@ -4,8 +4,8 @@ use mathlib.Core.Path.{_≡_, refl, sym, _∙_}
 use mathlib.Core.Bool.{false≢true}
 use native.Mathlib.Omega.{arith}
 use lib.ListN.{length, drop}
-use Rattle.protocol.specs.Ready.{Good}
-use Rattle.protocol.proofs.Good.{end-good}
+use Rattle.law_protocol.specs.Ready.{Good}
+use Rattle.law_protocol.proofs.Good.{end-good}
 use Rattle.receiving.specs.Steps.{sawFrom, SoFar}
 use Rattle.receiving.proofs.Keeping.{so-far-start, so-far-as, count-fits}
 use Rattle.receiving.proofs.Calling.{part-fits, moved, at-the-end, read-closed, read-good, read-further}
@@ -25,18 +25,6 @@ loop-holds : tie.Need-loop-holds Inv-loop μ-loop
 loop-holds c =
     let p = c .before .before .before .before .pre in (p .0, omega arith, p .1, so-far-start _ _ _, refl, refl, refl)
 
-reach-requires : tie.Need-reach-requires Inv-loop μ-loop
-reach-requires c κs = omega arith
-
-sub-one-read : tie.Need-sub-one-read Inv-loop μ-loop
-sub-one-read c = omega arith
-
-part-one-read-start : tie.Need-part-one-read-start Inv-loop μ-loop
-part-one-read-start c = omega arith
-
-part-one-read-end : tie.Need-part-one-read-end Inv-loop μ-loop
-part-one-read-end c = omega arith
-
 one-read-requires : tie.Need-one-read-requires Inv-loop μ-loop
 one-read-requires c κs =
     let l = c .before .before .before .before .before .before in
@@ -46,15 +34,6 @@ one-read-requires c κs =
       omega (arith, part-fits (l .before .before .before .before .before .args .file .now) _ _ (k .0) (k .1)),
       count-fits (i .3) (i .2),
     )
-
-same-length : tie.Need-same-length Inv-loop μ-loop
-same-length c = omega arith
-
-same-length-2 : tie.Need-same-length-2 Inv-loop μ-loop
-same-length-2 c = omega arith
-
-same-length-3 : tie.Need-same-length-3 Inv-loop μ-loop
-same-length-3 c = omega arith
 
 returns : tie.Need-returns Inv-loop μ-loop
 returns c =
@@ -92,15 +71,6 @@ loop-again c =
       omega arith,
     )
 
-same-length-4 : tie.Need-same-length-4 Inv-loop μ-loop
-same-length-4 c = omega arith
-
-same-length-5 : tie.Need-same-length-5 Inv-loop μ-loop
-same-length-5 c = omega arith
-
-same-length-6 : tie.Need-same-length-6 Inv-loop μ-loop
-same-length-6 c = omega arith
-
 returns-2 : tie.Need-returns-2 Inv-loop μ-loop
 returns-2 c = let i = c .before .loop .inv in
     record {
@@ -115,18 +85,18 @@ read-all-spec =
     Inv-loop
     μ-loop
     loop-holds
-    reach-requires
-    sub-one-read
-    part-one-read-start
-    part-one-read-end
+    (λ c κs. omega arith)
+    (λ c. omega arith)
+    (λ c. omega arith)
+    (λ c. omega arith)
     one-read-requires
-    same-length
-    same-length-2
-    same-length-3
+    (λ c. omega arith)
+    (λ c. omega arith)
+    (λ c. omega arith)
     returns
     loop-less
     loop-again
-    same-length-4
-    same-length-5
-    same-length-6
+    (λ c. omega arith)
+    (λ c. omega arith)
+    (λ c. omega arith)
     returns-2)

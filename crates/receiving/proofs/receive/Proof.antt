@@ -5,12 +5,6 @@ use Rattle.receiving.proofs.Whole.{refused-promise, opened-good, closed
 use Rattle.receiving.proofs.receive.Statement.{statement}
 use Rattle.receiving.proofs.receive.Tie as tie
 
-open-requires : tie.Need-open-requires
-open-requires c κs = search needs
-
-same-length : tie.Need-same-length
-same-length c = search needs
-
 returns : tie.Need-returns
 returns c = refused-promise _ _ _ _ _ (c .before .before .before .before .«open» .ensures) (c .if1 .taken)
 
@@ -18,15 +12,6 @@ read-all-requires : tie.Need-read-all-requires
 read-all-requires c κs =
     let d = c .before .before .before .before .before .before .before .before in
     opened-good _ _ _ [] [] (d .«open» .ensures) (c .before .before .before .before .if1 .left)
-
-same-length-2 : tie.Need-same-length-2
-same-length-2 c = search needs
-
-same-length-3 : tie.Need-same-length-3
-same-length-3 c = search needs
-
-same-length-4 : tie.Need-same-length-4
-same-length-4 c = search needs
 
 returns-2 : tie.Need-returns-2
 returns-2 c =
@@ -41,15 +26,6 @@ end-all-requires c κs =
     end-ready _ _ _ _ _ (i .before .before .before .before .«open» .ensures) (i .if1 .left) (d .read-all .ensures)
     (c .before .before .before .before .if2 .left)
 
-same-length-5 : tie.Need-same-length-5
-same-length-5 c = search needs
-
-same-length-6 : tie.Need-same-length-6
-same-length-6 c = search needs
-
-same-length-7 : tie.Need-same-length-7
-same-length-7 c = search needs
-
 returns-3 : tie.Need-returns-3
 returns-3 c =
     let f = c .before .before .before .before .before .before .before .before .before .before .before in
@@ -62,16 +38,16 @@ pub receive-spec : {M : Type 1} → statement M
 receive-spec =
     tie.close
     (tie.spec
-    open-requires
-    same-length
+    (λ c κs. search needs)
+    (λ c. search needs)
     returns
     read-all-requires
-    same-length-2
-    same-length-3
-    same-length-4
+    (λ c. search needs)
+    (λ c. search needs)
+    (λ c. search needs)
     returns-2
     end-all-requires
-    same-length-5
-    same-length-6
-    same-length-7
+    (λ c. search needs)
+    (λ c. search needs)
+    (λ c. search needs)
     returns-3)

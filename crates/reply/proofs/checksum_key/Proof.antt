@@ -12,15 +12,6 @@ returns : tie.Need-returns
 unfolding checksumKey
 returns c = sym (picks _ _ _ (c .if1 .taken))
 
-enum-told : tie.Need-enum-told
-enum-told c = search needs
-
-enum-known-working : tie.Need-enum-known-working
-enum-known-working c = search needs
-
-checksum-requires : tie.Need-checksum-requires
-checksum-requires c κs = search needs
-
 returns-2 : tie.Need-returns-2
 unfolding checksumKey summed
 returns-2 c = rw (skips _ _ _ (c .before .before .if1 .left), c .enum-told .given .1)
@@ -33,4 +24,4 @@ returns-3 c =
 
 pub checksum-key-spec : {M : Type 1} → statement M
 checksum-key-spec =
-    tie.close (tie.spec returns enum-told enum-known-working checksum-requires returns-2 returns-3)
+    tie.close (tie.spec returns (λ c. search needs) (λ c. search needs) (λ c κs. search needs) returns-2 returns-3)

@@ -6,36 +6,29 @@ use borrow.Author.Needs.{needs}
 use Rattle.reply.proofs.clock.Statement.{statement}
 use Rattle.reply.proofs.clock.Tie as tie
 
-low-digit-requires : tie.Need-low-digit-requires
-low-digit-requires c κs = search needs
-
-low-digit-requires-2 : tie.Need-low-digit-requires-2
-low-digit-requires-2 c κs = search needs
-
-low-digit-requires-3 : tie.Need-low-digit-requires-3
-low-digit-requires-3 c κs = search needs
-
-low-digit-requires-4 : tie.Need-low-digit-requires-4
-low-digit-requires-4 c κs = search needs
-
-low-digit-requires-5 : tie.Need-low-digit-requires-5
-low-digit-requires-5 c κs = search needs
-
-low-digit-requires-6 : tie.Need-low-digit-requires-6
-low-digit-requires-6 c κs = search needs
-
 returns : tie.Need-returns
 unfolding clockText decimalDigits letters
-returns c = rw (c .before .before .before .before .before .low-digit .ensures, c .before .before .before .before .low-digit2 .ensures, c .before .before .before .low-digit3 .ensures, c .before .before .low-digit4 .ensures, c .before .low-digit5 .ensures, c .low-digit6 .ensures)
+returns c =
+    let at-low-digit3 = c .before .before .before in
+    let at-low-digit2 = at-low-digit3 .before in
+    let at-low-digit = at-low-digit2 .before in
+    rw (
+      at-low-digit .low-digit .ensures,
+      at-low-digit2 .low-digit2 .ensures,
+      at-low-digit3 .low-digit3 .ensures,
+      c .before .before .low-digit4 .ensures,
+      c .before .low-digit5 .ensures,
+      c .low-digit6 .ensures,
+    )
 
 pub clock-spec : {M : Type 1} → statement M
 clock-spec =
     tie.close
     (tie.spec
-    low-digit-requires
-    low-digit-requires-2
-    low-digit-requires-3
-    low-digit-requires-4
-    low-digit-requires-5
-    low-digit-requires-6
+    (λ c κs. search needs)
+    (λ c κs. search needs)
+    (λ c κs. search needs)
+    (λ c κs. search needs)
+    (λ c κs. search needs)
+    (λ c κs. search needs)
     returns)

@@ -10,15 +10,6 @@ returns : tie.Need-returns
 unfolding enclosedKey
 returns c = sym (picks _ _ _ (c .if1 .taken))
 
-enum-told : tie.Need-enum-told
-enum-told c = search needs
-
-enum-known-transport : tie.Need-enum-known-transport
-enum-known-transport c = search needs
-
-seal-requires : tie.Need-seal-requires
-seal-requires c κs = search needs
-
 returns-2 : tie.Need-returns-2
 unfolding enclosedKey sealed
 returns-2 c = rw (skips _ _ _ (c .before .before .if1 .left), c .enum-told .given .1)
@@ -29,4 +20,4 @@ returns-3 c = rw (skips _ _ _ (c .before .before .before .before .if1 .left), c 
 
 pub enclosed-key-spec : {M : Type 1} → statement M
 enclosed-key-spec =
-    tie.close (tie.spec returns enum-told enum-known-transport seal-requires returns-2 returns-3)
+    tie.close (tie.spec returns (λ c. search needs) (λ c. search needs) (λ c κs. search needs) returns-2 returns-3)

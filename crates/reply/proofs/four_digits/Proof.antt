@@ -4,28 +4,21 @@ use borrow.Author.Needs.{needs}
 use Rattle.reply.proofs.four_digits.Statement.{statement}
 use Rattle.reply.proofs.four_digits.Tie as tie
 
-low-digit-requires : tie.Need-low-digit-requires
-low-digit-requires c κs = search needs
-
-low-digit-requires-2 : tie.Need-low-digit-requires-2
-low-digit-requires-2 c κs = search needs
-
-low-digit-requires-3 : tie.Need-low-digit-requires-3
-low-digit-requires-3 c κs = search needs
-
-low-digit-requires-4 : tie.Need-low-digit-requires-4
-low-digit-requires-4 c κs = search needs
-
 returns : tie.Need-returns
 unfolding decimalDigits
-returns c = rw (c .before .before .before .low-digit .ensures, c .before .before .low-digit2 .ensures, c .before .low-digit3 .ensures, c .low-digit4 .ensures)
+returns c = rw (
+  c .before .before .before .low-digit .ensures,
+  c .before .before .low-digit2 .ensures,
+  c .before .low-digit3 .ensures,
+  c .low-digit4 .ensures,
+)
 
 pub four-digits-spec : {M : Type 1} → statement M
 four-digits-spec =
     tie.close
     (tie.spec
-    low-digit-requires
-    low-digit-requires-2
-    low-digit-requires-3
-    low-digit-requires-4
+    (λ c κs. search needs)
+    (λ c κs. search needs)
+    (λ c κs. search needs)
+    (λ c κs. search needs)
     returns)

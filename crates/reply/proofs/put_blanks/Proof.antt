@@ -6,24 +6,6 @@ use borrow.Author.Needs.{needs}
 use Rattle.reply.proofs.put_blanks.Statement.{statement}
 use Rattle.reply.proofs.put_blanks.Tie as tie
 
-add-end : tie.Need-add-end
-add-end c = search needs
-
-sub-fill-blank : tie.Need-sub-fill-blank
-sub-fill-blank c = search needs
-
-part-fill-blank-start : tie.Need-part-fill-blank-start
-part-fill-blank-start c = search needs
-
-part-fill-blank-end : tie.Need-part-fill-blank-end
-part-fill-blank-end c = search needs
-
-fill-blank-requires : tie.Need-fill-blank-requires
-fill-blank-requires c κs = search needs
-
-same-length : tie.Need-same-length
-same-length c = search needs
-
 returns : tie.Need-returns
 returns c =
     let a = c .before .before .before .before .before .args in
@@ -34,10 +16,10 @@ pub put-blanks-spec : {M : Type 1} → statement M
 put-blanks-spec =
     tie.close
     (tie.spec
-    add-end
-    sub-fill-blank
-    part-fill-blank-start
-    part-fill-blank-end
-    fill-blank-requires
-    same-length
+    (λ c. search needs)
+    (λ c. search needs)
+    (λ c. search needs)
+    (λ c. search needs)
+    (λ c κs. search needs)
+    (λ c. search needs)
     returns)

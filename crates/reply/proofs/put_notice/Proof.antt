@@ -8,43 +8,25 @@ use borrow.Author.Needs.{needs}
 use Rattle.reply.proofs.put_notice.Statement.{statement}
 use Rattle.reply.proofs.put_notice.Tie as tie
 
-clock-requires : tie.Need-clock-requires
-clock-requires c κs = search needs
-
-text-requires : tie.Need-text-requires
-text-requires c κs = search needs
-
-slice-aggregate-put : tie.Need-slice-aggregate-put
-slice-aggregate-put c = search needs
-
-put-requires : tie.Need-put-requires
-put-requires c κs = search needs
-
-slice-aggregate-put-2 : tie.Need-slice-aggregate-put-2
-slice-aggregate-put-2 c = search needs
-
-put-requires-2 : tie.Need-put-requires-2
-put-requires-2 c κs = search needs
-
-same-length : tie.Need-same-length
-same-length c = search needs
-
 returns : tie.Need-returns
 returns c =
     let s = c .before .before .before .before .before .before .before .before .before .before .before .before .before in
-    let e = notice-filled (s .args .a) _ _ (c .before .before .before .before .before .before .before .before .before .before .before .clock .ensures) (c .before .before .before .before .before .before .before .before .before .before .text .ensures) in
+    let e = notice-filled (s .args .a) _ _
+    (c .before .before .before .before .before .before .before .before .before .before .before .clock .ensures)
+    (c .before .before .before .before .before .before .before .before .before .before .text .ensures) in
     alike e
-    (end (then (begin (c .before .before .before .before .before .before .before .put .ensures)) (c .before .before .put2 .ensures)) (omega (arith, s .pre, ap length e, notice-length (s .args .a))))
+    (end (then (begin (c .before .before .before .before .before .before .before .put .ensures)) (c .before .before .put2 .ensures))
+    (omega (arith, s .pre, ap length e, notice-length (s .args .a))))
 
 pub put-notice-spec : {M : Type 1} → statement M
 put-notice-spec =
     tie.close
     (tie.spec
-    clock-requires
-    text-requires
-    slice-aggregate-put
-    put-requires
-    slice-aggregate-put-2
-    put-requires-2
-    same-length
+    (λ c κs. search needs)
+    (λ c κs. search needs)
+    (λ c. search needs)
+    (λ c κs. search needs)
+    (λ c. search needs)
+    (λ c κs. search needs)
+    (λ c. search needs)
     returns)

@@ -6,15 +6,6 @@ use borrow.Author.Needs.{needs}
 use Rattle.reply.proofs.seal.Statement.{statement}
 use Rattle.reply.proofs.seal.Tie as tie
 
-enum-told : tie.Need-enum-told
-enum-told c = search needs
-
-enum-known-enclosed : tie.Need-enum-known-enclosed
-enum-known-enclosed c = search needs
-
-encipher-requires : tie.Need-encipher-requires
-encipher-requires c κs = search needs
-
 returns : tie.Need-returns
 unfolding sealed
 returns c = rw (c .enum-told .given .1)
@@ -24,4 +15,4 @@ unfolding sealed
 returns-2 c = rw (c .before .before .enclosed .given .1) (ap Is (c .encipher .ensures))
 
 pub seal-spec : {M : Type 1} → statement M
-seal-spec = tie.close (tie.spec enum-told enum-known-enclosed encipher-requires returns returns-2)
+seal-spec = tie.close (tie.spec (λ c. search needs) (λ c. search needs) (λ c κs. search needs) returns returns-2)

@@ -13,11 +13,9 @@ use borrow.Author.Needs.{needs}
 use Rattle.reply.proofs.write.Statement.{statement}
 use Rattle.reply.proofs.write.Tie as tie
 
-sized : (c : tie.Start) → (length (c .args .a .bank) ≡ 25) × (length (c .args .a .software) ≡ 16) × (length (c .args .a .message) ≡ 161) × (length (c .args .a .closing) ≡ 161)
+sized : (c : tie.Start) → (length (c .args .a .bank) ≡ 25) × (length (c .args .a .software) ≡ 16) × (length (c .args .a .message) ≡ 161)
+    × (length (c .args .a .closing) ≡ 161)
 sized c = search needs
-
-size-of-requires : tie.Need-size-of-requires
-size-of-requires c κs = search needs
 
 returns : tie.Need-returns
 unfolding writtenLength replied replyLength
@@ -30,9 +28,6 @@ put-reply-requires : tie.Need-put-reply-requires
 unfolding replyLength
 put-reply-requires c κs = omega (arith, c .before .if1 .left, c .before .before .size-of .ensures)
 
-same-length : tie.Need-same-length
-same-length c = search needs
-
 returns-2 : tie.Need-returns-2
 unfolding writtenLength replied replyLength
 returns-2 c =
@@ -40,11 +35,12 @@ returns-2 c =
     let a = s .args .a in
     let l = sized s in
     let n : length (replyOf a) ≡ replyLength a = reply-length a (l .0) (l .1) (l .2) (l .3) in
-    let f : replyLength a ≤ length (s .args .out .now) = omega (arith, c .before .before .before .before .if1 .left, c .before .before .before .before .before .size-of .ensures) in
+    let f : replyLength a ≤ length (s .args .out .now) =
+    omega (arith, c .before .before .before .before .if1 .left, c .before .before .before .before .before .size-of .ensures) in
     let p = c .before .before .put-reply .ensures in (
       p .place ∙ zero-add _ ∙ n ∙ sym (picks _ _ _ (le-leb _ _ f)),
       over (omega arith) p ∙ sym (picks _ _ _ (le-leb _ _ f)),
     )
 
 pub write-spec : {M : Type 1} → statement M
-write-spec = tie.close (tie.spec size-of-requires returns put-reply-requires same-length returns-2)
+write-spec = tie.close (tie.spec (λ c κs. search needs) returns put-reply-requires (λ c. search needs) returns-2)

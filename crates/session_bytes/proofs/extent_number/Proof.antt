@@ -1,24 +1,9 @@
 -- Each has its own number.
 use mathlib.Core.Path.{sym, ap}
-use Rattle.session_bytes.specs.Session.{extentNumber}
+use Rattle.session_bytes.specs.Names.{extentNumber}
 use borrow.Author.Needs.{needs}
 use Rattle.session_bytes.proofs.extent_number.Statement.{statement}
 use Rattle.session_bytes.proofs.extent_number.Tie as tie
-
-enum-told : tie.Need-enum-told
-enum-told c = search needs
-
-enum-told-2 : tie.Need-enum-told-2
-enum-told-2 c = search needs
-
-enum-told-3 : tie.Need-enum-told-3
-enum-told-3 c = search needs
-
-enum-told-4 : tie.Need-enum-told-4
-enum-told-4 c = search needs
-
-enum-told-5 : tie.Need-enum-told-5
-enum-told-5 c = search needs
 
 returns : tie.Need-returns
 unfolding extentNumber
@@ -44,11 +29,11 @@ pub extent-number-spec : {M : Type 1} → statement M
 extent-number-spec =
     tie.close
     (tie.spec
-    enum-told
-    enum-told-2
-    enum-told-3
-    enum-told-4
-    enum-told-5
+    (λ c. search needs)
+    (λ c. search needs)
+    (λ c. search needs)
+    (λ c. search needs)
+    (λ c. search needs)
     returns
     returns-2
     returns-3

@@ -1,12 +1,10 @@
--- The length, the flags, the place, the SUO's extent and the one-time key decide; all else is written as it is read.
-use mathlib.Core.Path.{sym, _∙_}
+-- The length, and the layout's tests, one after the other.
+use mathlib.Core.Path.{_∙_}
 use native.Mathlib.Omega.{arith}
-use borrow.Author.Tests.{not-true, not-false}
-use Rattle.ground.proofs.Choices.{same-eq, eq-same}
-use Rattle.splices.proofs.Splice.{AllBytes, numAt-fits}
-use Rattle.record.proofs.Exact.{agree}
-use Rattle.session_bytes.specs.Session.{sessionBytes, sessionOf}
-use Rattle.session_bytes.proofs.Exact.{session-exact, flags-small, place-in, extent-in, key-exact, by-bytes, no-session, wrong-length}
+use borrow.Author.Tests.{lt-ltb, le-ltb}
+use Rattle.ground.specs.Lists.{part}
+use Rattle.splices.specs.Bytes.{num}
+use Rattle.session_bytes.proofs.Tests.{refused, passed, wrong-length}
 use borrow.Author.Needs.{needs}
 use Rattle.session_bytes.proofs.is_session.Statement.{statement}
 use Rattle.session_bytes.proofs.is_session.Tie as tie
@@ -14,62 +12,129 @@ use Rattle.session_bytes.proofs.is_session.Tie as tie
 returns : tie.Need-returns
 returns c = wrong-length (c .before .before .args .b .now) (c .if1 .taken)
 
-are-flags-requires : tie.Need-are-flags-requires
-are-flags-requires c κs = search needs
-
 returns-2 : tie.Need-returns-2
 returns-2 c =
-    let t = c .before .before .before .before .args .b .now in
-    let n = c .before .before .if1 .left in
-    no-session t n (λ e. c .before .are-flags .ensures .1 (not-true _ (c .if2 .taken)) (flags-small t n e))
-
-read1-requires : tie.Need-read1-requires
-read1-requires c κs = search needs
+    let l = c .before .before .before .before .args .b .now in
+    refused l (c .before .before .if1 .left) (λ k. c .before .before .before .shared-slice-known .given k .fits) 0
+    (le-ltb (num (part 0 1 l)) 2 (omega (arith, c .before .read1 .ensures, c .if2 .taken)))
 
 returns-3 : tie.Need-returns-3
 returns-3 c =
-    let t = c .before .before .before .before .before .before .args .b .now in
-    let n = c .before .before .before .before .if1 .left in
-    let r = c .before .read1 .ensures ∙ numAt-fits 1 3 t (omega (arith, n)) in
-    no-session t n (λ e. omega (arith, r, place-in t n e, c .if3 .taken))
-
-read4-requires : tie.Need-read4-requires
-read4-requires c κs = search needs
+    let at-if1 = c .before .before .before .before in
+    let at-shared-slice-known = at-if1 .before in
+    let at-args = at-shared-slice-known .before in
+    let l = at-args .args .b .now in
+    refused l (at-if1 .if1 .left) (λ k. at-shared-slice-known .shared-slice-known .given k .fits) 1
+    (le-ltb (num (part 1 1 l)) 2 (omega (arith, c .before .read12 .ensures, c .if3 .taken)))
 
 returns-4 : tie.Need-returns-4
 returns-4 c =
-    let t = c .before .before .before .before .before .before .before .before .args .b .now in
-    let n = c .before .before .before .before .before .before .if1 .left in
-    let r = c .before .read4 .ensures ∙ numAt-fits 4 228 t (omega (arith, n)) in
-    no-session t n (λ e. omega (arith, r, extent-in t n e, c .if4 .taken))
-
-is-exact-key-requires : tie.Need-is-exact-key-requires
-is-exact-key-requires c κs = search needs
+    let at-if1 = c .before .before .before .before .before .before in
+    let at-shared-slice-known = at-if1 .before in
+    let at-args = at-shared-slice-known .before in
+    let l = at-args .args .b .now in
+    refused l (at-if1 .if1 .left) (λ k. at-shared-slice-known .shared-slice-known .given k .fits) 2
+    (le-ltb (num (part 2 1 l)) 2 (omega (arith, c .before .read13 .ensures, c .if4 .taken)))
 
 returns-5 : tie.Need-returns-5
 returns-5 c =
-    let t = c .before .before .before .before .before .before .before .before .before .args .b .now in
-    let n = c .before .before .before .before .before .before .before .if1 .left in
-    let b : AllBytes t = λ k. c .before .before .before .before .before .before .before .before .shared-slice-known .given k .fits in
-    let r = c .before .before .before .before .read1 .ensures ∙ numAt-fits 1 3 t (omega (arith, n)) in
-    let x = c .before .before .read4 .ensures ∙ numAt-fits 4 228 t (omega (arith, n)) in
-    let f = c .before .before .before .before .before .before .are-flags .ensures .0 (not-false _ (c .before .before .before .before .before .if2 .left)) in
-    let k = c .is-exact-key .ensures in
-    agree (c .is-exact-key .result) (sessionBytes (sessionOf t)) t
-    (λ e. session-exact t n b f (omega (arith, r, c .before .before .before .if3 .left)) (omega (arith, x, c .before .if4 .left)) (same-eq _ _ (sym k ∙ e)))
-    (λ e. k ∙ eq-same _ _ (key-exact t n e))
-    ∙ sym (by-bytes t n)
+    let at-if1 = c .before .before .before .before .before .before .before .before in
+    let at-shared-slice-known = at-if1 .before in
+    let at-args = at-shared-slice-known .before in
+    let l = at-args .args .b .now in
+    refused l (at-if1 .if1 .left) (λ k. at-shared-slice-known .shared-slice-known .given k .fits) 3
+    (le-ltb (num (part 3 1 l)) 7 (omega (arith, c .before .read14 .ensures, c .if5 .taken)))
+
+returns-6 : tie.Need-returns-6
+returns-6 c =
+    let at-if1 = c .before .before .before .before .before .before .before .before .before .before in
+    let at-shared-slice-known = at-if1 .before in
+    let at-args = at-shared-slice-known .before in
+    let l = at-args .args .b .now in
+    refused l (at-if1 .if1 .left) (λ k. at-shared-slice-known .shared-slice-known .given k .fits) 4
+    (le-ltb (num (part 61 1 l)) 2 (omega (arith, c .before .read15 .ensures, c .if6 .taken)))
+
+returns-7 : tie.Need-returns-7
+returns-7 c =
+    let at-if1 = c .before .before .before .before .before .before .before .before .before .before .before .before in
+    let at-shared-slice-known = at-if1 .before in
+    let at-args = at-shared-slice-known .before in
+    let l = at-args .args .b .now in
+    refused l (at-if1 .if1 .left) (λ k. at-shared-slice-known .shared-slice-known .given k .fits) 5
+    (le-ltb (num (part 66 1 l)) 2 (omega (arith, c .before .read16 .ensures, c .if7 .taken)))
+
+returns-8 : tie.Need-returns-8
+returns-8 c =
+    let past-here = c .before .before .before .before .before .before .before .before .before .before .before .before in
+    let at-if1 = past-here .before .before in
+    let at-shared-slice-known = at-if1 .before in
+    let at-args = at-shared-slice-known .before in
+    let l = at-args .args .b .now in
+    refused l (at-if1 .if1 .left) (λ k. at-shared-slice-known .shared-slice-known .given k .fits) 6
+    (le-ltb (num (part 228 4 l)) 5 (omega (arith, c .before .read4 .ensures, c .if8 .taken)))
+
+returns-9 : tie.Need-returns-9
+returns-9 c =
+    let past-here = c .before .before .before .before .before .before .before .before .before .before .before .before in
+    let at-if1 = past-here .before .before .before .before in
+    let at-shared-slice-known = at-if1 .before in
+    let at-args = at-shared-slice-known .before in
+    let l = at-args .args .b .now in
+    refused l (at-if1 .if1 .left) (λ k. at-shared-slice-known .shared-slice-known .given k .fits) 7
+    (le-ltb (num (part 232 1 l)) 2 (omega (arith, c .before .read17 .ensures, c .if9 .taken)))
+
+returns-10 : tie.Need-returns-10
+returns-10 c =
+    let at-if8 = c .before .before .before in
+    let at-read4 = at-if8 .before in
+    let at-if7 = at-read4 .before in
+    let at-read16 = at-if7 .before in
+    let at-if6 = at-read16 .before in
+    let at-read15 = at-if6 .before in
+    let at-if5 = at-read15 .before in
+    let at-read14 = at-if5 .before in
+    let at-if4 = at-read14 .before in
+    let at-read13 = at-if4 .before in
+    let at-if3 = at-read13 .before in
+    let at-read12 = at-if3 .before in
+    let at-if2 = at-read12 .before in
+    let at-read1 = at-if2 .before in
+    let at-if1 = at-read1 .before in
+    let at-shared-slice-known = at-if1 .before in
+    let at-args = at-shared-slice-known .before in
+    let l = at-args .args .b .now in
+    let opened = lt-ltb (num (part 0 1 l)) 2 (omega (arith, at-read1 .read1 .ensures, at-if2 .if2 .left)) in
+    let ended = lt-ltb (num (part 1 1 l)) 2 (omega (arith, at-read12 .read12 .ensures, at-if3 .if3 .left)) in
+    let told = lt-ltb (num (part 2 1 l)) 2 (omega (arith, at-read13 .read13 .ensures, at-if4 .if4 .left)) in
+    let place = lt-ltb (num (part 3 1 l)) 7 (omega (arith, at-read14 .read14 .ensures, at-if5 .if5 .left)) in
+    let cr = lt-ltb (num (part 61 1 l)) 2 (omega (arith, at-read15 .read15 .ensures, at-if6 .if6 .left)) in
+    let blank = lt-ltb (num (part 66 1 l)) 2 (omega (arith, at-read16 .read16 .ensures, at-if7 .if7 .left)) in
+    let extent = lt-ltb (num (part 228 4 l)) 5 (omega (arith, at-read4 .read4 .ensures, at-if8 .if8 .left)) in
+    let over = lt-ltb (num (part 232 1 l)) 2 (omega (arith, c .before .before .read17 .ensures, c .before .if9 .left)) in
+    c .is-exact-key .ensures
+    ∙ passed l (at-if1 .if1 .left) (λ k. at-shared-slice-known .shared-slice-known .given k .fits)
+    (opened, (ended, (told, (place, (cr, (blank, (extent, (over, tt))))))))
 
 pub is-session-spec : {M : Type 1} → statement M
 is-session-spec =
     tie.close
     (tie.spec
     returns
-    are-flags-requires
+    (λ c κs. search needs)
     returns-2
-    read1-requires
+    (λ c κs. search needs)
     returns-3
-    read4-requires
+    (λ c κs. search needs)
     returns-4
-    is-exact-key-requires
-    returns-5)
+    (λ c κs. search needs)
+    returns-5
+    (λ c κs. search needs)
+    returns-6
+    (λ c κs. search needs)
+    returns-7
+    (λ c κs. search needs)
+    returns-8
+    (λ c κs. search needs)
+    returns-9
+    (λ c κs. search needs)
+    returns-10)

@@ -1,18 +1,9 @@
 -- Each kind has its own number.
 use mathlib.Core.Path.{sym, ap}
-use Rattle.session_bytes.specs.Session.{kindNumber}
+use Rattle.session_bytes.specs.Names.{kindNumber}
 use borrow.Author.Needs.{needs}
 use Rattle.session_bytes.proofs.kind_number.Statement.{statement}
 use Rattle.session_bytes.proofs.kind_number.Tie as tie
-
-enum-told : tie.Need-enum-told
-enum-told c = search needs
-
-enum-told-2 : tie.Need-enum-told-2
-enum-told-2 c = search needs
-
-enum-told-3 : tie.Need-enum-told-3
-enum-told-3 c = search needs
 
 returns : tie.Need-returns
 unfolding kindNumber
@@ -28,4 +19,4 @@ returns-3 c = sym (ap kindNumber (c .enum-told3 .given .1))
 
 pub kind-number-spec : {M : Type 1} → statement M
 kind-number-spec =
-    tie.close (tie.spec enum-told enum-told-2 enum-told-3 returns returns-2 returns-3)
+    tie.close (tie.spec (λ c. search needs) (λ c. search needs) (λ c. search needs) returns returns-2 returns-3)

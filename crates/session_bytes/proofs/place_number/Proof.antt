@@ -1,27 +1,9 @@
 -- Each place has its own number.
 use mathlib.Core.Path.{sym, ap, _∙_}
-use Rattle.session_bytes.specs.Session.{placeNumber}
+use Rattle.session_bytes.specs.Names.{placeNumber}
 use borrow.Author.Needs.{needs}
 use Rattle.session_bytes.proofs.place_number.Statement.{statement}
 use Rattle.session_bytes.proofs.place_number.Tie as tie
-
-enum-told : tie.Need-enum-told
-enum-told c = search needs
-
-enum-told-2 : tie.Need-enum-told-2
-enum-told-2 c = search needs
-
-enum-known-p : tie.Need-enum-known-p
-enum-known-p c = search needs
-
-kind-number-requires : tie.Need-kind-number-requires
-kind-number-requires c κs = search needs
-
-enum-told-3 : tie.Need-enum-told-3
-enum-told-3 c = search needs
-
-enum-told-4 : tie.Need-enum-told-4
-enum-told-4 c = search needs
 
 returns : tie.Need-returns
 unfolding placeNumber
@@ -47,12 +29,12 @@ pub place-number-spec : {M : Type 1} → statement M
 place-number-spec =
     tie.close
     (tie.spec
-    enum-told
-    enum-told-2
-    enum-known-p
-    kind-number-requires
-    enum-told-3
-    enum-told-4
+    (λ c. search needs)
+    (λ c. search needs)
+    (λ c. search needs)
+    (λ c κs. search needs)
+    (λ c. search needs)
+    (λ c. search needs)
     returns
     returns-2
     returns-3

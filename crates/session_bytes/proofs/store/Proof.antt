@@ -8,14 +8,11 @@ use Rattle.session_bytes.proofs.store.Tie as tie
 returns : tie.Need-returns
 returns c = sym (stays (c .before .before .args .b .now) (c .before .before .args .s) (c .if1 .taken))
 
-store-session-requires : tie.Need-store-session-requires
-store-session-requires c κs = search needs
-
-same-length : tie.Need-same-length
-same-length c = search needs
-
 returns-2 : tie.Need-returns-2
-returns-2 c = c .before .before .store-session .ensures ∙ sym (stored (c .before .before .before .before .before .before .args .b .now) (c .before .before .before .before .before .before .args .s) (c .before .before .before .before .if1 .left))
+returns-2 c =
+    let at-if1 = c .before .before .before .before in
+    let at-args = at-if1 .before .before in
+    c .before .before .store-session .ensures ∙ sym (stored (at-args .args .b .now) (at-args .args .s) (at-if1 .if1 .left))
 
 pub store-spec : {M : Type 1} → statement M
-store-spec = tie.close (tie.spec returns store-session-requires same-length returns-2)
+store-spec = tie.close (tie.spec returns (λ c κs. search needs) (λ c. search needs) returns-2)

@@ -1,46 +1,37 @@
--- The head, the characters on their way and the batch are written one past the other, over all bytes.
-use mathlib.Core.Path.{_≡_, refl, sym, _∙_}
-use mathlib.Core.List.{[]}
-use Prim.Native.Nat.{ℕ}
+-- The parts are written one after the other, over all bytes.
+use mathlib.Core.Path.{_∙_}
+use Prim.Native.Nat.{_≤_}
 use native.Mathlib.Omega.{arith}
-use borrow.Author.Needs.{length-unmapped}
 use lib.ListN.{length}
-use Rattle.record.proofs.Runs.{none, grouped}
-use Rattle.record.proofs.Widths.{joined-width}
-use Rattle.session_bytes.specs.Session.{sessionBytes}
-use Rattle.session_bytes.specs.Groups.{headFields, textFields, batchFields}
-use Rattle.session_bytes.proofs.Widths.{headWidths, head-wide, textWidths, text-wide, batchWidths, batch-wide, session-width}
-use Rattle.session_bytes.proofs.Groups.{over-all}
+use Rattle.codec.specs.Layout.{Sized, laid, width}
+use Rattle.codec.proofs.Laws.{laid-is, splice-all}
+use Rattle.session_bytes.specs.Session.{sessionShape, sessionTo, sessionBytes}
 use borrow.Author.Needs.{needs}
 use Rattle.session_bytes.proofs.store_session.Statement.{statement}
 use Rattle.session_bytes.proofs.store_session.Tie as tie
 
-store-head-requires : tie.Need-store-head-requires
-store-head-requires c κs = search needs
-
-store-gathered-requires : tie.Need-store-gathered-requires
-store-gathered-requires c κs = search needs
-
-store-batch-requires : tie.Need-store-batch-requires
-store-batch-requires c κs = search needs
-
-same-length : tie.Need-same-length
-same-length c = search needs
-
 returns : tie.Need-returns
-unfolding sessionBytes
+unfolding sessionBytes laid width
 returns c =
-    let t = c .before .before .before .before .before .before .before .before .before .before .before .before .before .before .before .args .b .now in
-    let s = c .before .before .before .before .before .before .before .before .before .before .before .before .before .before .before .args .s in
-    let h = c .before .before .before .before .before .before .before .before .before .before .before .before .before .before .before .pre in
-    let n : length (s .sender) ≡ 25 = search needs in
-    let m : length (s .gathered .text) ≡ 161 = length-unmapped ℕ (s .gathered .text) 161 (c .before .before .before .before .before .before .before .before .before .before .before .before .before .before .before .good .1 .0 .1 .1 .1 .1 .1 .1 .1 .1 .1 .1 .0 .1 .1 .1 .1 .0 .1 .0 .1) in
-    let q : length (s .batch .suo .text) ≡ 161 = length-unmapped ℕ (s .batch .suo .text) 161 (c .before .before .before .before .before .before .before .before .before .before .before .before .before .before .before .good .1 .0 .1 .1 .1 .1 .1 .1 .1 .1 .1 .1 .1 .0 .1 .1 .0 .1 .1 .1 .1 .0 .1 .0 .1) in
-    let r₁ = grouped 0 0 62 0 [] (headFields s) t t _ refl (joined-width _ headWidths (head-wide s n)) (omega (arith, h)) (none 0 t) (c .before .before .before .before .before .before .before .before .before .before .store-head .ensures) in
-    let r₂ = grouped 0 62 166 62 _ (textFields (s .gathered .count) (s .gathered .blank) (s .gathered .text)) t _ _ refl (joined-width _ textWidths (text-wide (s .gathered .count) (s .gathered .blank) (s .gathered .text) m)) (omega (arith, h)) r₁ (c .before .before .before .before .before .before .store-gathered .ensures) in
-    grouped 0 228 247 228 _ (batchFields (s .batch)) t _ _ refl (joined-width _ batchWidths (batch-wide (s .batch) q)) (omega (arith, h)) r₂ (c .before .before .store-batch .ensures) .is ∙ over-all (sessionBytes s) t (session-width s n m q ∙ sym h)
+    let at-store-gathered = c .before .before .before .before .before .before in
+    let at-store-front = at-store-gathered .before .before .before .before in
+    let a = at-store-front .before .before .before .before .before in
+    let v = sessionTo (a .args .s) in
+    let t = a .args .b .now in
+    let h : 475 ≤ length t = omega (arith, a .pre) in
+    let z : Sized sessionShape v = (
+      at-store-front .store-front .ensures .1,
+      (at-store-gathered .store-gathered .ensures .1, c .before .before .store-batch .ensures .1),
+    ) in
+    rw (c .before .before .store-batch .ensures .0, at-store-gathered .store-gathered .ensures .0, at-store-front .store-front .ensures .0)
+    (laid-is sessionShape v z 0 t h ∙ splice-all sessionShape v z t (a .pre))
 
 pub store-session-spec : {M : Type 1} → statement M
 store-session-spec =
     tie.close
-    (tie.spec store-head-requires store-gathered-requires store-batch-requires same-length returns)
+    (tie.spec
+    (λ c κs. search needs)
+    (λ c κs. search needs)
+    (λ c κs. search needs)
+    (λ c. search needs)
+    returns)

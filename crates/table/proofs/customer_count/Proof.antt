@@ -11,16 +11,10 @@ use Rattle.table.proofs.customer_count.Tie as tie
 returns : tie.Need-returns
 returns c = sym (ap (λ (t : Table). length (t .customers)) (table-other _ (c .if1 .taken)))
 
-count-at-requires : tie.Need-count-at-requires
-count-at-requires c κs = search needs
-
-cast-result : tie.Need-cast-result
-cast-result c = search needs
-
 returns-2 : tie.Need-returns-2
 returns-2 c =
-    c .count-at .ensures .0
+    c .count-customers .ensures .0
     ∙ sym (ap (λ (t : Table). length (t .customers)) (table-sized _ (c .before .if1 .left)) ∙ customers-length _ _ _)
 
 pub customer-count-spec : {M : Type 1} → statement M
-customer-count-spec = tie.close (tie.spec returns count-at-requires cast-result returns-2)
+customer-count-spec = tie.close (tie.spec returns (λ c κs. search needs) (λ c. search needs) returns-2)

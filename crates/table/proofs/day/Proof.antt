@@ -9,11 +9,8 @@ use Rattle.table.proofs.day.Tie as tie
 returns : tie.Need-returns
 returns c = sym (ap (λ (t : Table). t .day) (table-other _ (c .if1 .taken)))
 
-read4-requires : tie.Need-read4-requires
-read4-requires c κs = search needs
-
 returns-2 : tie.Need-returns-2
 returns-2 c = c .read4 .ensures ∙ sym (ap (λ (t : Table). t .day) (table-sized _ (c .before .if1 .left)))
 
 pub day-spec : {M : Type 1} → statement M
-day-spec = tie.close (tie.spec returns read4-requires returns-2)
+day-spec = tie.close (tie.spec returns (λ c κs. search needs) returns-2)

@@ -12,24 +12,18 @@ returns : tie.Need-returns
 unfolding placeOf placeFrom
 returns c = sym (ap (λ (t : Table). placeOf t (c .before .before .args .who)) (table-other _ (c .if1 .taken)))
 
-customers-start-requires : tie.Need-customers-start-requires
-customers-start-requires c κs = search needs
-
-count-at-requires : tie.Need-count-at-requires
-count-at-requires c κs = search needs
-
-find-from-requires : tie.Need-find-from-requires
-find-from-requires c κs = search needs
-
 returns-2 : tie.Need-returns-2
 unfolding placeOf
 returns-2 c =
-    let a = c .before .before .before .before .before .args in
+    let at-if1 = c .before .before .before in
+    let at-args = at-if1 .before .before in
+    let a = at-args .args in
     c .find-from .ensures
-    ∙ ap₂ (λ (p n : ℕ). placeFrom 0 (a .who) (customersAt p n (a .t .now))) (c .before .before .customers-start .ensures .0) (c .before .count-at .ensures .0)
-    ∙ sym (ap (λ (t : Table). placeOf t (a .who)) (table-sized _ (c .before .before .before .if1 .left)))
+    ∙ ap₂ (λ (p n : ℕ). placeFrom 0 (a .who) (customersAt p n (a .t .now))) (c .before .before .customers-start .ensures .0)
+    (c .before .count-customers .ensures .0)
+    ∙ sym (ap (λ (t : Table). placeOf t (a .who)) (table-sized _ (at-if1 .if1 .left)))
 
 pub find-spec : {M : Type 1} → statement M
 find-spec =
     tie.close
-    (tie.spec returns customers-start-requires count-at-requires find-from-requires returns-2)
+    (tie.spec returns (λ c κs. search needs) (λ c κs. search needs) (λ c κs. search needs) returns-2)

@@ -15,25 +15,18 @@ returns : tie.Need-returns
 unfolding holidaysOf
 returns c = sym (ap holidaysOf (table-other _ (c .if1 .taken)))
 
-count-at-requires : tie.Need-count-at-requires
-count-at-requires c κs = search needs
-
-dates-at-requires : tie.Need-dates-at-requires
-dates-at-requires c κs = search needs
-
-cast-t7 : tie.Need-cast-t7
-cast-t7 c = search needs
-
 returns-2 : tie.Need-returns-2
 unfolding holidaysOf
 returns-2 c =
-    let b = c .before .before .before .before .args .t .now in
-    let n = c .before .count-at .ensures .0 in
-    let k : c .before .count-at .result ≡ length (datesAt holidaysStart (c .before .count-at .result) b) = sym (dates-length holidaysStart _ b) in
+    let at-args = c .before .before .before .before in
+    let b = at-args .args .t .now in
+    let n = c .before .count-holidays .ensures .0 in
+    let k : c .before .count-holidays .result ≡ length (datesAt holidaysStart (c .before .count-holidays .result) b) =
+    sym (dates-length holidaysStart _ b) in
     (λ i. record { count = k i; dates = c .dates-at .ensures i })
     ∙ ap (λ (m : ℕ). record { count = length (datesAt holidaysStart m b); dates = filled (datesAt holidaysStart m b) }) n
     ∙ sym (ap holidaysOf (table-sized b (c .before .before .if1 .left)))
 
 pub holidays-in-spec : {M : Type 1} → statement M
 holidays-in-spec =
-    tie.close (tie.spec returns count-at-requires dates-at-requires cast-t7 returns-2)
+    tie.close (tie.spec returns (λ c κs. search needs) (λ c κs. search needs) (λ c. search needs) returns-2)

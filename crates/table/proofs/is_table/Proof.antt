@@ -8,76 +8,77 @@ use Rattle.table.specs.Written.{holidaysStart, customersStart}
 use Rattle.table.specs.Decode.{holidayCount, customerCount}
 use Rattle.table.specs.Tests.{datesAt, okDates, okRecords}
 use Rattle.table.proofs.Exact.{no-table, last-of-table}
+use native.Mathlib.Omega.{arith}
+use Rattle.customer_bytes.proofs.Laws.{settings-at}
 use borrow.Author.Needs.{needs}
 use Rattle.table.proofs.is_table.Statement.{statement}
 use Rattle.table.proofs.is_table.Tie as tie
 
 returns : tie.Need-returns
-returns c = no-table _ _ (λ f. eq-eqb _ _ (f .size)) (ne-eqb _ _ (c .if1 .taken))
-
-is-header-requires : tie.Need-is-header-requires
-is-header-requires c κs = search needs
+returns c = no-table _ _ (λ k. c .before .shared-slice-known .given k .fits) (λ f. eq-eqb _ _ (f .size)) (ne-eqb _ _ (c .if1 .taken))
 
 returns-2 : tie.Need-returns-2
-returns-2 c = no-table _ _ (λ f. f .head) (sym (c .before .is-header .ensures) ∙ not-true _ (c .if2 .taken))
-
-read4-requires : tie.Need-read4-requires
-read4-requires c κs = search needs
-
-is-real-requires : tie.Need-is-real-requires
-is-real-requires c κs = search needs
+returns-2 c = no-table _ _ (λ k. c .before .before .before .shared-slice-known .given k .fits) (λ f. f .head)
+    (sym (c .before .is-header .ensures) ∙ not-true _ (c .if2 .taken))
 
 returns-3 : tie.Need-returns-3
 returns-3 c =
-    no-table _ _ (λ f. f .day) (ap realDate (sym (c .before .before .read4 .ensures)) ∙ sym (c .before .is-real .ensures) ∙ not-true _ (c .if3 .taken))
-
-settings-at-requires : tie.Need-settings-at-requires
-settings-at-requires c κs = search needs
-
-is-sound-settings-requires : tie.Need-is-sound-settings-requires
-is-sound-settings-requires c κs = search needs
+    let at-shared-slice-known = c .before .before .before .before .before .before in
+    no-table _ _ (λ k. at-shared-slice-known .shared-slice-known .given k .fits) (λ f. f .day)
+    (ap realDate (sym (c .before .before .read4 .ensures)) ∙ sym (c .before .is-real .ensures)
+    ∙ not-true _ (c .if3 .taken))
 
 returns-4 : tie.Need-returns-4
 returns-4 c =
-    no-table _ _ (λ f. f .settings) (ap soundSettings (sym (c .before .before .settings-at .ensures)) ∙ sym (c .before .is-sound-settings .ensures) ∙ not-true _ (c .if4 .taken))
-
-count-at-requires : tie.Need-count-at-requires
-count-at-requires c κs = search needs
-
-are-dates-requires : tie.Need-are-dates-requires
-are-dates-requires c κs = search needs
+    no-table _ _ (λ k. c .before .before .before .before .before .before .before .before .before .shared-slice-known .given k .fits)
+    (λ f. f .settings) (ap soundSettings
+    (sym (c .before .before .settings-at .ensures
+    ∙ settings-at 24 _ (omega (arith, c .before .before .before .before .before .before .before .before .if1 .left))))
+    ∙ sym (c .before .is-sound-settings .ensures) ∙ not-true _ (c .if4 .taken))
 
 returns-5 : tie.Need-returns-5
 returns-5 c =
-    let b = c .before .before .before .before .before .before .before .before .before .before .before .before .before .args .t .now in
-    no-table b _ (λ f. f .dates)
-    (ap (λ (n : ℕ). okDates (datesAt holidaysStart n b)) (sym (c .before .before .count-at .ensures .0)) ∙ sym (c .before .are-dates .ensures) ∙ not-true _ (c .if5 .taken))
-
-customers-start-requires : tie.Need-customers-start-requires
-customers-start-requires c κs = search needs
-
-count-at-requires-2 : tie.Need-count-at-requires-2
-count-at-requires-2 c κs = search needs
-
-are-customers-requires : tie.Need-are-customers-requires
-are-customers-requires c κs = search needs
+    let at-whole = c .before .before .before .before .before .before .before .before .before .before .before .before in
+    let past-here = at-whole in
+    let at-args = past-here .before in
+    let b = at-args .args .t .now in
+    no-table b _ (λ k. at-whole .shared-slice-known .given k .fits) (λ f. f .dates)
+    (ap (λ (n : ℕ). okDates (datesAt holidaysStart n b)) (sym (c .before .before .count-holidays .ensures .0))
+    ∙ sym (c .before .are-dates .ensures) ∙ not-true _ (c .if5 .taken))
 
 returns-6 : tie.Need-returns-6
 returns-6 c =
-    let b = c .before .before .before .before .before .before .before .before .before .before .before .before .before .before .before .before .args .t .now in
+    let at-if5 = c .before .before .before in
+    let at-are-dates = at-if5 .before in
+    let at-count-at = at-are-dates .before in
+    let at-if4 = at-count-at .before in
+    let at-is-sound-settings = at-if4 .before in
+    let at-settings-at = at-is-sound-settings .before in
+    let at-if3 = at-settings-at .before in
+    let at-is-real = at-if3 .before in
+    let at-read4 = at-is-real .before in
+    let at-if2 = at-read4 .before in
+    let at-is-header = at-if2 .before in
+    let at-if1 = at-is-header .before in
+    let at-shared-slice-known = at-if1 .before in
+    let at-args = at-shared-slice-known .before in
+    let b = at-args .args .t .now in
     let last : c .are-customers .result ≡ okRecords (customerCount b) (customersStart (holidayCount b)) b =
-    c .are-customers .ensures ∙ ap₂ (λ (p n : ℕ). okRecords n p b) (c .before .before .customers-start .ensures .0) (c .before .count-at2 .ensures .0) in
-    last-of-table b (c .are-customers .result) (λ k. c .before .before .before .before .before .before .before .before .before .before .before .before .before .before .before .shared-slice-known .given k .fits)
+    c .are-customers .ensures ∙ ap₂ (λ (p n : ℕ). okRecords n p b) (c .before .before .customers-start .ensures .0)
+    (c .before .count-customers .ensures .0) in
+    last-of-table b (c .are-customers .result) (λ k. at-shared-slice-known .shared-slice-known .given k .fits)
     (λ e.
     record {
-      size = c .before .before .before .before .before .before .before .before .before .before .before .before .before .before .if1 .left;
-      head = sym (c .before .before .before .before .before .before .before .before .before .before .before .before .before .is-header .ensures) ∙ not-false _ (c .before .before .before .before .before .before .before .before .before .before .before .before .if2 .left);
-      day = ap realDate (sym (c .before .before .before .before .before .before .before .before .before .before .before .read4 .ensures)) ∙ sym (c .before .before .before .before .before .before .before .before .before .before .is-real .ensures) ∙ not-false _ (c .before .before .before .before .before .before .before .before .before .if3 .left);
-      settings = ap soundSettings (sym (c .before .before .before .before .before .before .before .before .settings-at .ensures)) ∙ sym (c .before .before .before .before .before .before .before .is-sound-settings .ensures) ∙ not-false _ (c .before .before .before .before .before .before .if4 .left);
+      size = at-if1 .if1 .left;
+      head = sym (at-is-header .is-header .ensures) ∙ not-false _ (at-if2 .if2 .left);
+      day = ap realDate (sym (at-read4 .read4 .ensures)) ∙ sym (at-is-real .is-real .ensures) ∙ not-false _ (at-if3 .if3 .left);
+      settings = ap soundSettings (sym (at-settings-at .settings-at .ensures ∙ settings-at 24 b (omega (arith, at-if1 .if1 .left))))
+          ∙ sym (at-is-sound-settings .is-sound-settings .ensures)
+          ∙ not-false _ (at-if4 .if4 .left);
       dates =
-          ap (λ (n : ℕ). okDates (datesAt holidaysStart n b)) (sym (c .before .before .before .before .before .count-at .ensures .0))
-          ∙ sym (c .before .before .before .before .are-dates .ensures)
-          ∙ not-false _ (c .before .before .before .if5 .left);
+          ap (λ (n : ℕ). okDates (datesAt holidaysStart n b)) (sym (at-count-at .count-holidays .ensures .0))
+          ∙ sym (at-are-dates .are-dates .ensures)
+          ∙ not-false _ (at-if5 .if5 .left);
       records = sym last ∙ e;
     })
     (λ f. last ∙ f .records)
@@ -87,18 +88,18 @@ is-table-spec =
     tie.close
     (tie.spec
     returns
-    is-header-requires
+    (λ c κs. search needs)
     returns-2
-    read4-requires
-    is-real-requires
+    (λ c κs. search needs)
+    (λ c κs. search needs)
     returns-3
-    settings-at-requires
-    is-sound-settings-requires
+    (λ c κs. search needs)
+    (λ c κs. search needs)
     returns-4
-    count-at-requires
-    are-dates-requires
+    (λ c κs. search needs)
+    (λ c κs. search needs)
     returns-5
-    customers-start-requires
-    count-at-requires-2
-    are-customers-requires
+    (λ c κs. search needs)
+    (λ c κs. search needs)
+    (λ c κs. search needs)
     returns-6)

@@ -1,8 +1,8 @@
 -- Header, settings and holidays are written one after the other, if the length is right and the holidays have room.
-use mathlib.Core.Path.{sym}
+use mathlib.Core.Path.{_≡_, sym}
+use lib.ListN.{length}
 use borrow.Author.Tests.{ne-eqb, lt-leb}
 use Rattle.ground.proofs.Choices.{fails-left, fails-right, skips}
-use Rattle.record.proofs.Widths.{settings-width}
 use Rattle.table.specs.Stored.{tableSetUp}
 use Rattle.table.proofs.Stores.{set-up-writes}
 use native.Mathlib.Omega.{arith}
@@ -18,26 +18,16 @@ returns-2 : tie.Need-returns-2
 unfolding tableSetUp
 returns-2 c = sym (skips _ _ _ (fails-right _ _ (lt-leb _ _ (c .if2 .taken))))
 
-cast-store-header : tie.Need-cast-store-header
-cast-store-header c = search needs
-
-store-header-requires : tie.Need-store-header-requires
-store-header-requires c κs = search needs
-
-store-settings-requires : tie.Need-store-settings-requires
-store-settings-requires c κs = search needs
-
-store-dates-requires : tie.Need-store-dates-requires
-store-dates-requires c κs = search needs
-
-same-length : tie.Need-same-length
-same-length c = search needs
-
 returns-3 : tie.Need-returns-3
 returns-3 c =
-    let a = c .before .before .before .before .before .before .before .before .before .before .before .before .before .before .before .before .args in
-    set-up-writes (a .t .now) (a .day .yymmdd) (a .s) (a .holidays .now) _ _ _ (c .before .before .before .before .before .before .before .before .before .before .before .before .before .if1 .left) (omega (arith, c .before .before .before .before .before .before .before .before .before .before .before .before .if2 .left))
-    (settings-width (a .s) (search needs) (search needs)) (c .before .before .before .before .before .before .before .before .before .before .store-header .ensures) (c .before .before .before .before .before .before .store-settings .ensures) (c .before .before .store-dates .ensures)
+    let sized = c .before .before .before .before .before .before .before .before .before .before .before .before .before in
+    let a = sized .before .before .before .args in
+    let n : length (a .s .bank) ≡ 25 = search needs in
+    let m : length (a .s .software) ≡ 16 = search needs in
+    let few = c .before .before .before .before .before .before .before .before .before .before .before .before in
+    set-up-writes (a .t .now) (a .day .yymmdd) (a .s) (a .holidays .now) _ _ _ (sized .if1 .left) (omega (arith, few .if2 .left))
+    (n, (m, (tt, (tt, tt)))) (c .before .before .before .before .before .before .before .before .before .before .store-header .ensures)
+    (c .before .before .before .before .before .before .store-settings .ensures) (c .before .before .store-dates .ensures)
 
 pub set-up-spec : {M : Type 1} → statement M
 set-up-spec =
@@ -45,9 +35,9 @@ set-up-spec =
     (tie.spec
     returns
     returns-2
-    cast-store-header
-    store-header-requires
-    store-settings-requires
-    store-dates-requires
-    same-length
+    (λ c. search needs)
+    (λ c κs. search needs)
+    (λ c κs. search needs)
+    (λ c κs. search needs)
+    (λ c. search needs)
     returns-3)

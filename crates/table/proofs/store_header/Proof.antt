@@ -1,61 +1,47 @@
--- Six writes that adjoin are one.
-use mathlib.Core.Path.{ap, _∙_}
-use Prim.Native.Nat.{_+_, _*_}
-use Rattle.splices.specs.Bytes.{bytesOf, put}
-use Rattle.table.proofs.Filled.{new-header}
+-- The header's numbers are written as one row.
+use mathlib.Core.Path.{_≡_, refl, sym, ap}
+use mathlib.Core.Bool.{true}
+use mathlib.Core.List.{[], _∷_}
+use Prim.Native.Nat.{ℕ, _+_, _*_}
+use native.Mathlib.Nat.{add-zero}
+use native.Mathlib.Omega.{arith}
+use Rattle.ground.specs.Choice.{both}
+use Rattle.codec.specs.Layout.{scalar}
+use Rattle.codec.specs.Rows.{total, widths, cells}
+use Rattle.codec.proofs.Rows.{as-row}
+use Rattle.table.specs.Written.{headerShape, headerTo}
 use borrow.Author.Needs.{needs}
 use Rattle.table.proofs.store_header.Statement.{statement}
 use Rattle.table.proofs.store_header.Tie as tie
 
-mul-start : tie.Need-mul-start
-mul-start c = search needs
+header-scalar : scalar headerShape ≡ true
+unfolding both
+header-scalar = refl
 
-add-start : tie.Need-add-start
-add-start c = search needs
+header-cells : (day h : ℕ) → (82 + 4 * h) ∷ day ∷ h ∷ 82 ∷ 0 ∷ (82 + 4 * h) ∷ [] ≡ cells headerShape (headerTo day h 0)
+unfolding cells
+header-cells day h = ap (λ (x : ℕ). x ∷ day ∷ h ∷ 82 ∷ 0 ∷ (82 + 4 * h) ∷ []) (sym (add-zero (82 + 4 * h)))
 
-write4-requires : tie.Need-write4-requires
-write4-requires c κs = search needs
-
-write4-requires-2 : tie.Need-write4-requires-2
-write4-requires-2 c κs = search needs
-
-write4-requires-3 : tie.Need-write4-requires-3
-write4-requires-3 c κs = search needs
-
-write4-requires-4 : tie.Need-write4-requires-4
-write4-requires-4 c κs = search needs
-
-write4-requires-5 : tie.Need-write4-requires-5
-write4-requires-5 c κs = search needs
-
-write4-requires-6 : tie.Need-write4-requires-6
-write4-requires-6 c κs = search needs
-
-same-length : tie.Need-same-length
-same-length c = search needs
+write-row-requires : tie.Need-write-row-requires
+unfolding total
+write-row-requires c κs = (search needs, omega arith)
 
 returns : tie.Need-returns
+unfolding widths
 returns c =
-    let a = c .before .before .before .before .before .before .before .before .before .before .before .before .before .before .before .before .before .before .before .before .before .before .before .before .before in
-    c .before .before .write46 .ensures
-    ∙ ap (put 20 (bytesOf 4 (82 + 4 * a .args .holidays))) (c .before .before .before .before .before .before .write45 .ensures
-    ∙ ap (put 16 (bytesOf 4 0)) (c .before .before .before .before .before .before .before .before .before .before .write44 .ensures
-    ∙ ap (put 12 (bytesOf 4 82)) (c .before .before .before .before .before .before .before .before .before .before .before .before .before .before .write43 .ensures
-    ∙ ap (put 8 (bytesOf 4 (a .args .holidays))) (c .before .before .before .before .before .before .before .before .before .before .before .before .before .before .before .before .before .before .write42 .ensures
-    ∙ ap (put 4 (bytesOf 4 (a .args .day))) (c .before .before .before .before .before .before .before .before .before .before .before .before .before .before .before .before .before .before .before .before .before .before .write4 .ensures)))))
-    ∙ new-header (a .args .day) (a .args .holidays) (a .args .t .now) (a .pre .0)
+    let a = c .before .before .before .before .before .before .before .args in
+    as-row headerShape header-scalar (headerTo (a .day) (a .holidays) 0) _ _ _ _ _ refl (header-cells (a .day) (a .holidays))
+    (c .before .before .write-row .ensures)
 
 pub store-header-spec : {M : Type 1} → statement M
 store-header-spec =
     tie.close
     (tie.spec
-    mul-start
-    add-start
-    write4-requires
-    write4-requires-2
-    write4-requires-3
-    write4-requires-4
-    write4-requires-5
-    write4-requires-6
-    same-length
+    (λ c. search needs)
+    (λ c. search needs)
+    (λ c. search needs)
+    (λ c. search needs)
+    (λ c. search needs)
+    write-row-requires
+    (λ c. search needs)
     returns)

@@ -19,23 +19,11 @@ abbrev μ-loop : tie.MeasureT-loop
 loop-holds : tie.Need-loop-holds Inv-loop μ-loop
 loop-holds c = (omega arith, refl)
 
-shared-slice-read-is-digit : tie.Need-shared-slice-read-is-digit Inv-loop μ-loop
-shared-slice-read-is-digit c = omega arith
-
-is-digit-requires : tie.Need-is-digit-requires Inv-loop μ-loop
-is-digit-requires c κs = tt
-
 returns : tie.Need-returns Inv-loop μ-loop
 returns c =
     all-stop digit _ (c .before .before .before .before .loop .i) (c .before .before .before .loop-test .taken)
     (sym (c .before .is-digit .ensures) ∙ not-true _ (c .if1 .taken))
     (c .before .before .before .before .loop .inv .1)
-
-add-i : tie.Need-add-i Inv-loop μ-loop
-add-i c = omega arith
-
-loop-less : tie.Need-loop-less Inv-loop μ-loop
-loop-less c = omega arith
 
 loop-again : tie.Need-loop-again Inv-loop μ-loop
 loop-again c = (
@@ -55,10 +43,10 @@ all-digits-spec =
     Inv-loop
     μ-loop
     loop-holds
-    shared-slice-read-is-digit
-    is-digit-requires
+    (λ c. omega arith)
+    (λ c κs. tt)
     returns
-    add-i
-    loop-less
+    (λ c. omega arith)
+    (λ c. omega arith)
     loop-again
     returns-2)

@@ -20,18 +20,6 @@ abbrev μ-loop : tie.MeasureT-loop
 loop-holds : tie.Need-loop-holds Inv-loop μ-loop
 loop-holds c = (omega arith, refl, append-nil (hexDigits 16 (c .args .x)))
 
-sub-i : tie.Need-sub-i Inv-loop μ-loop
-sub-i c = omega arith
-
-hex-character-requires : tie.Need-hex-character-requires Inv-loop μ-loop
-hex-character-requires c κs = tt
-
-array-write-out : tie.Need-array-write-out Inv-loop μ-loop
-array-write-out c = omega arith
-
-loop-less : tie.Need-loop-less Inv-loop μ-loop
-loop-less c = omega arith
-
 loop-again : tie.Need-loop-again Inv-loop μ-loop
 loop-again c =
     let l = c .before .before .loop in (
@@ -52,9 +40,9 @@ hex-digits-spec =
     Inv-loop
     μ-loop
     loop-holds
-    sub-i
-    hex-character-requires
-    array-write-out
-    loop-less
+    (λ c. omega arith)
+    (λ c κs. tt)
+    (λ c. omega arith)
+    (λ c. omega arith)
     loop-again
     returns)

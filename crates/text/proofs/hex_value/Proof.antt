@@ -8,21 +8,12 @@ use Rattle.text.proofs.Laws.{digit-byte, letter-byte}
 use Rattle.text.proofs.hex_value.Statement.{statement}
 use Rattle.text.proofs.hex_value.Tie as tie
 
-is-digit-requires : tie.Need-is-digit-requires
-is-digit-requires c κs = search needs
-
 sub-result : tie.Need-sub-result
 sub-result c = digit-byte _ (sym (c .before .is-digit .ensures) ∙ c .if1 .taken) .0
-
-cast-result : tie.Need-cast-result
-cast-result c = search needs
 
 returns : tie.Need-returns
 unfolding hexValue
 returns c = sym (picks _ _ _ (sym (c .before .is-digit .ensures) ∙ c .if1 .taken))
-
-is-hex-digit-requires : tie.Need-is-hex-digit-requires
-is-hex-digit-requires c κs = search needs
 
 sub-result-2 : tie.Need-sub-result-2
 sub-result-2 c =
@@ -32,9 +23,6 @@ sub-result-2 c =
           (sym (c .before .before .before .is-digit .ensures) ∙ c .before .before .if1 .left)
           (sym (c .before .is-hex-digit .ensures) ∙ c .if2 .taken),
     )
-
-cast-result-2 : tie.Need-cast-result-2
-cast-result-2 c = search needs
 
 returns-2 : tie.Need-returns-2
 unfolding hexValue
@@ -54,12 +42,12 @@ pub hex-value-spec : {M : Type 1} → statement M
 hex-value-spec =
     tie.close
     (tie.spec
-    is-digit-requires
+    (λ c κs. search needs)
     sub-result
-    cast-result
+    (λ c. search needs)
     returns
-    is-hex-digit-requires
+    (λ c κs. search needs)
     sub-result-2
-    cast-result-2
+    (λ c. search needs)
     returns-2
     returns-3)

@@ -7,9 +7,6 @@ use Rattle.text.specs.Characters.{internal}
 use Rattle.text.proofs.internal_code.Statement.{statement}
 use Rattle.text.proofs.internal_code.Tie as tie
 
-lies-requires : tie.Need-lies-requires
-lies-requires c κs = search needs
-
 sub-result : tie.Need-sub-result
 sub-result c =
     omega (arith, between-true 0x61 0x7A (c .before .before .args .b) (sym (c .before .lies .ensures) ∙ c .if1 .taken))
@@ -17,9 +14,6 @@ sub-result c =
 returns : tie.Need-returns
 unfolding internal
 returns c = sym (picks _ _ _ (sym (c .before .lies .ensures) ∙ c .if1 .taken))
-
-is-field-character-requires : tie.Need-is-field-character-requires
-is-field-character-requires c κs = search needs
 
 returns-2 : tie.Need-returns-2
 unfolding internal
@@ -38,4 +32,4 @@ returns-3 c =
 pub internal-code-spec : {M : Type 1} → statement M
 internal-code-spec =
     tie.close
-    (tie.spec lies-requires sub-result returns is-field-character-requires returns-2 returns-3)
+    (tie.spec (λ c κs. search needs) sub-result returns (λ c κs. search needs) returns-2 returns-3)

@@ -8,15 +8,9 @@ use Rattle.text.proofs.Laws.{field-ranges, blank-field}
 use Rattle.text.proofs.is_field_character.Statement.{statement}
 use Rattle.text.proofs.is_field_character.Tie as tie
 
-lies-requires : tie.Need-lies-requires
-lies-requires c κs = search needs
-
 returns : tie.Need-returns
 returns c =
     sym (field-ranges _ (c .before .before .fits .b .fits) ∙ either-left _ _ (sym (c .before .lies .ensures) ∙ c .if1 .taken))
-
-lies-requires-2 : tie.Need-lies-requires-2
-lies-requires-2 c κs = search needs
 
 returns-2 : tie.Need-returns-2
 returns-2 c =
@@ -38,4 +32,4 @@ returns-4 c =
 
 pub is-field-character-spec : {M : Type 1} → statement M
 is-field-character-spec =
-    tie.close (tie.spec lies-requires returns lies-requires-2 returns-2 returns-3 returns-4)
+    tie.close (tie.spec (λ c κs. search needs) returns (λ c κs. search needs) returns-2 returns-3 returns-4)

@@ -6,15 +6,9 @@ use Rattle.text.specs.Characters.{hexDigit}
 use Rattle.text.proofs.is_hex_digit.Statement.{statement}
 use Rattle.text.proofs.is_hex_digit.Tie as tie
 
-is-digit-requires : tie.Need-is-digit-requires
-is-digit-requires c κs = search needs
-
 returns : tie.Need-returns
 unfolding hexDigit
 returns c = sym (either-left _ _ (sym (c .before .is-digit .ensures) ∙ c .if1 .taken))
-
-lies-requires : tie.Need-lies-requires
-lies-requires c κs = search needs
 
 returns-2 : tie.Need-returns-2
 unfolding hexDigit
@@ -23,4 +17,4 @@ returns-2 c =
     ∙ sym (either-decides _ _ (sym (c .before .before .is-digit .ensures) ∙ c .before .if1 .left))
 
 pub is-hex-digit-spec : {M : Type 1} → statement M
-is-hex-digit-spec = tie.close (tie.spec is-digit-requires returns lies-requires returns-2)
+is-hex-digit-spec = tie.close (tie.spec (λ c κs. search needs) returns (λ c κs. search needs) returns-2)

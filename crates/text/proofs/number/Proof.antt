@@ -3,10 +3,10 @@ use mathlib.Core.Path.{_≡_, sym, ap, _∙_}
 use Prim.Native.Nat.{ℕ, _≤_, _-_}
 use native.Mathlib.Omega.{arith}
 use lib.ListN.{length, take}
+use Rattle.ground.proofs.Lists.{take-both}
 use Rattle.text.specs.Numbers.{decimal}
 use Rattle.text.proofs.Base.{read-more, read-fits}
 use Rattle.text.proofs.Laws.{decimal-nil, decimals}
-use Rattle.text.proofs.Lists.{take-both}
 use Rattle.text.proofs.number.Statement.{statement}
 use Rattle.text.proofs.number.Tie as tie
 
@@ -29,27 +29,19 @@ mul-n c =
     let l = c .before .before .loop in
     omega (arith, read-fits decimals _ (l .i) (l .n) (l .inv .2) (c .before .loop-test .taken) 19 (omega arith))
 
-shared-slice-read-digit-value : tie.Need-shared-slice-read-digit-value Inv-loop μ-loop
-shared-slice-read-digit-value c = omega arith
-
-digit-value-requires : tie.Need-digit-value-requires Inv-loop μ-loop
-digit-value-requires c κs = tt
-
 add-n : tie.Need-add-n Inv-loop μ-loop
 add-n c =
     let l = c .before .before .before .before .loop in
     omega (arith, read-fits decimals _ (l .i) (l .n) (l .inv .2) (c .before .before .before .loop-test .taken) 19 (omega arith))
 
-add-i : tie.Need-add-i Inv-loop μ-loop
-add-i c = omega arith
-
-loop-less : tie.Need-loop-less Inv-loop μ-loop
-loop-less c = omega arith
-
 loop-again : tie.Need-loop-again Inv-loop μ-loop
 loop-again c =
-    let l = c .before .before .before .before .loop in
-    (omega arith, omega arith, read-more decimals _ (l .i) (l .n) (l .inv .2) (c .before .before .before .loop-test .taken) _ (c .digit-value .ensures))
+    let l = c .before .before .before .before .loop in (
+      omega arith,
+      omega arith,
+      read-more decimals _ (l .i) (l .n) (l .inv .2) (c .before .before .before .loop-test .taken) _
+          (c .digit-value .ensures),
+    )
 
 returns-2 : tie.Need-returns-2 Inv-loop μ-loop
 returns-2 c =
@@ -65,10 +57,10 @@ number-spec =
     loop-holds
     returns
     mul-n
-    shared-slice-read-digit-value
-    digit-value-requires
+    (λ c. omega arith)
+    (λ c κs. tt)
     add-n
-    add-i
-    loop-less
+    (λ c. omega arith)
+    (λ c. omega arith)
     loop-again
     returns-2)

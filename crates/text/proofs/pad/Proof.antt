@@ -6,15 +6,6 @@ use borrow.Author.Needs.{needs}
 use Rattle.text.proofs.pad.Statement.{statement}
 use Rattle.text.proofs.pad.Tie as tie
 
-fill-blank-requires : tie.Need-fill-blank-requires
-fill-blank-requires c κs = search needs
-
-copy-requires : tie.Need-copy-requires
-copy-requires c κs = search needs
-
-same-length : tie.Need-same-length
-same-length c = search needs
-
 returns : tie.Need-returns
 returns c =
     c .before .before .copy .ensures
@@ -22,4 +13,4 @@ returns c =
     ∙ overlay-padded _ _
 
 pub pad-spec : {M : Type 1} → statement M
-pad-spec = tie.close (tie.spec fill-blank-requires copy-requires same-length returns)
+pad-spec = tie.close (tie.spec (λ c κs. search needs) (λ c κs. search needs) (λ c. search needs) returns)

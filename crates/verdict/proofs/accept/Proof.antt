@@ -8,53 +8,36 @@ use borrow.Author.Needs.{needs}
 use Rattle.verdict.proofs.accept.Statement.{statement}
 use Rattle.verdict.proofs.accept.Tie as tie
 
-grant-to-requires : tie.Need-grant-to-requires
-grant-to-requires c κs = search needs
-
-same-length : tie.Need-same-length
-same-length c = search needs
-
 returns : tie.Need-returns
 returns c = (c .before .grant-to .ensures, sym (skips _ _ _ (not-true _ (c .if1 .taken))))
 
-marked-requires : tie.Need-marked-requires
-marked-requires c κs = search needs
-
-sender-requires : tie.Need-sender-requires
-sender-requires c κs = search needs
-
-find-requires : tie.Need-find-requires
-find-requires c κs = search needs
-
-store-record-requires : tie.Need-store-record-requires
-store-record-requires c κs = search needs
-
-store-seed-requires : tie.Need-store-seed-requires
-store-seed-requires c κs = search needs
-
-same-length-2 : tie.Need-same-length-2
-same-length-2 c = search needs
-
 returns-2 : tie.Need-returns-2
 returns-2 c =
-    let g = c .before .before .before .before .before .before .before .before .before .before .before .before .before .before .before .grant-to .ensures in
-    let f = c .before .before .before .before .before .before .before .before .find .ensures ∙ ap (placeOf _) (c .before .before .before .before .before .before .before .before .before .sender .ensures) in (
+    let at-store-record = c .before .before .before .before .before .before in
+    let at-find = at-store-record .before .before in
+    let at-sender = at-find .before in
+    let at-marked = at-sender .before .before in
+    let at-if1 = at-marked .before .before .before in
+    let at-grant-to = at-if1 .before in
+    let g = at-grant-to .grant-to .ensures in
+    let f = at-find .find .ensures ∙ ap (placeOf _) (at-sender .sender .ensures) in (
       g,
-      stored-after _ _ _ _ _ _ _ _ _ _ g (c .before .before .before .before .before .before .before .before .before .before .before .marked .ensures) f (c .before .before .before .before .before .before .store-record .ensures) (c .before .before .store-seed .ensures)
-          ∙ sym (picks _ _ _ (not-false _ (c .before .before .before .before .before .before .before .before .before .before .before .before .before .before .if1 .left))),
+      stored-after _ _ _ _ _ _ _ _ _ _ g (at-marked .marked .ensures) f (at-store-record .store-record .ensures)
+          (c .before .before .store-seed .ensures)
+          ∙ sym (picks _ _ _ (not-false _ (at-if1 .if1 .left))),
     )
 
 pub accept-spec : {M : Type 1} → statement M
 accept-spec =
     tie.close
     (tie.spec
-    grant-to-requires
-    same-length
+    (λ c κs. search needs)
+    (λ c. search needs)
     returns
-    marked-requires
-    sender-requires
-    find-requires
-    store-record-requires
-    store-seed-requires
-    same-length-2
+    (λ c κs. search needs)
+    (λ c κs. search needs)
+    (λ c κs. search needs)
+    (λ c κs. search needs)
+    (λ c κs. search needs)
+    (λ c. search needs)
     returns-2)

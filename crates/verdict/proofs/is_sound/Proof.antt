@@ -4,12 +4,6 @@ use borrow.Author.Needs.{needs}
 use Rattle.verdict.proofs.is_sound.Statement.{statement}
 use Rattle.verdict.proofs.is_sound.Tie as tie
 
-enum-told : tie.Need-enum-told
-enum-told c = search needs
-
-enum-known-fault : tie.Need-enum-known-fault
-enum-known-fault c = search needs
-
 returns : tie.Need-returns
 unfolding isSound
 returns c = rw (c .enum-told .given .1)
@@ -19,4 +13,4 @@ unfolding isSound
 returns-2 c = rw (c .before .fault .given .1)
 
 pub is-sound-spec : {M : Type 1} → statement M
-is-sound-spec = tie.close (tie.spec enum-told enum-known-fault returns returns-2)
+is-sound-spec = tie.close (tie.spec (λ c. search needs) (λ c. search needs) returns returns-2)

@@ -4,17 +4,8 @@ use borrow.Author.Needs.{needs}
 use Rattle.verdict.proofs.judge_esi.Statement.{statement}
 use Rattle.verdict.proofs.judge_esi.Tie as tie
 
-check-esi-requires : tie.Need-check-esi-requires
-check-esi-requires c κs = search needs
-
-conclude-requires : tie.Need-conclude-requires
-conclude-requires c κs = search needs
-
-same-length : tie.Need-same-length
-same-length c = search needs
-
 returns : tie.Need-returns
 returns c = esi-judged _ _ _ _ _ _ (c .before .before .before .before .check-esi .ensures) (c .before .before .conclude .ensures)
 
 pub judge-esi-spec : {M : Type 1} → statement M
-judge-esi-spec = tie.close (tie.spec check-esi-requires conclude-requires same-length returns)
+judge-esi-spec = tie.close (tie.spec (λ c κs. search needs) (λ c κs. search needs) (λ c. search needs) returns)

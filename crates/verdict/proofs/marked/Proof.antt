@@ -8,38 +8,29 @@ use borrow.Author.Needs.{needs}
 use Rattle.verdict.proofs.marked.Statement.{statement}
 use Rattle.verdict.proofs.marked.Tie as tie
 
-holidays-in-requires : tie.Need-holidays-in-requires
-holidays-in-requires c κs = search needs
-
-cast-n : tie.Need-cast-n
-cast-n c = search needs
-
 array-share-prefix-dates : tie.Need-array-share-prefix-dates
 array-share-prefix-dates c = lent-room _ _ (c .before .before .holidays-in .ensures)
 
 slice-aggregate-with-stamp : tie.Need-slice-aggregate-with-stamp
 slice-aggregate-with-stamp c = lent-count _ _ (c .before .before .before .holidays-in .ensures)
 
-stamp-requires : tie.Need-stamp-requires
-stamp-requires c κs = search needs
-
-with-stamp-requires : tie.Need-with-stamp-requires
-with-stamp-requires c κs = search needs
-
 returns : tie.Need-returns
 returns c =
-    let a = c .before .before .before .before .before .before .before .args in
+    let at-holidays-in = c .before .before .before .before .before in
+    let at-args = at-holidays-in .before .before in
+    let a = at-args .args in
     c .with-stamp .ensures
-    ∙ ap₂ (λ (h : List ℕ) (s : ℕ). withStamp h (a .today .yymmdd) (a .c) s (a .once)) (sym (lent-dates _ _ (c .before .before .before .before .before .holidays-in .ensures))) (c .before .stamp .ensures)
+    ∙ ap₂ (λ (h : List ℕ) (s : ℕ). withStamp h (a .today) (a .c) s (a .once))
+    (sym (lent-dates _ _ (at-holidays-in .holidays-in .ensures))) (c .before .stamp .ensures)
 
 pub marked-spec : {M : Type 1} → statement M
 marked-spec =
     tie.close
     (tie.spec
-    holidays-in-requires
-    cast-n
+    (λ c κs. search needs)
+    (λ c. search needs)
     array-share-prefix-dates
     slice-aggregate-with-stamp
-    stamp-requires
-    with-stamp-requires
+    (λ c κs. search needs)
+    (λ c κs. search needs)
     returns)

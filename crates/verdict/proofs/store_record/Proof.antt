@@ -6,23 +6,13 @@ use borrow.Author.Needs.{needs}
 use Rattle.verdict.proofs.store_record.Statement.{statement}
 use Rattle.verdict.proofs.store_record.Tie as tie
 
-enum-known-place : tie.Need-enum-known-place
-enum-known-place c = search needs
-
-store-requires : tie.Need-store-requires
-store-requires c κs = search needs
-
-enum-told : tie.Need-enum-told
-enum-told c = search needs
-
-same-length : tie.Need-same-length
-same-length c = search needs
-
 returns : tie.Need-returns
 unfolding storedAt
 returns c =
-    let a = c .before .before .before .before .before .before .before .before .args in
-    c .before .before .store .ensures ∙ sym (ap (λ (f : Found). storedAt (a .t .now) f (a .c)) (c .before .before .before .before .before .place .given .1))
+    let at-place = c .before .before .before .before .before in
+    let at-args = at-place .before .before .before in
+    let a = at-args .args in
+    c .before .before .store .ensures ∙ sym (ap (λ (f : Found). storedAt (a .t .now) f (a .c)) (at-place .place .given .1))
 
 returns-2 : tie.Need-returns-2
 unfolding storedAt
@@ -32,4 +22,4 @@ returns-2 c =
 
 pub store-record-spec : {M : Type 1} → statement M
 store-record-spec =
-    tie.close (tie.spec enum-known-place store-requires enum-told same-length returns returns-2)
+    tie.close (tie.spec (λ c. search needs) (λ c κs. search needs) (λ c. search needs) (λ c. search needs) returns returns-2)

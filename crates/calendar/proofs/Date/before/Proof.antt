@@ -7,15 +7,9 @@ use borrow.Author.Needs.{needs}
 use Rattle.calendar.proofs.Date.before.Statement.{statement}
 use Rattle.calendar.proofs.Date.before.Tie as tie
 
-place-in-order-requires : tie.Need-place-in-order-requires
-place-in-order-requires c κs = search needs
-
-place-in-order-requires-2 : tie.Need-place-in-order-requires-2
-place-in-order-requires-2 c κs = search needs
-
 returns : tie.Need-returns
 unfolding earlier
 returns c = ap₂ ltb (c .before .place-in-order .ensures) (c .place-in-order2 .ensures)
 
 pub before-spec : {M : Type 1} → statement M
-before-spec = tie.close (tie.spec place-in-order-requires place-in-order-requires-2 returns)
+before-spec = tie.close (tie.spec (λ c κs. search needs) (λ c κs. search needs) returns)

@@ -8,21 +8,6 @@ use borrow.Author.Needs.{needs}
 use Rattle.calendar.proofs.Date.day_number.Statement.{statement}
 use Rattle.calendar.proofs.Date.day_number.Tie as tie
 
-cast-d : tie.Need-cast-d
-cast-d c = search needs
-
-add-n : tie.Need-add-n
-add-n c = search needs
-
-years-before-requires : tie.Need-years-before-requires
-years-before-requires c κs = search needs
-
-add-months-before : tie.Need-add-months-before
-add-months-before c = search needs
-
-months-before-requires : tie.Need-months-before-requires
-months-before-requires c κs = search needs
-
 -- the years and months are few
 few : (c : tie.After-months-before) → c .before .years-before .result + c .months-before .result < 40000
 few c =
@@ -42,25 +27,32 @@ add-days-2 : tie.Need-add-days-2
 add-days-2 c = omega (arith, few c)
 
 returns : tie.Need-returns
-returns c = omega (arith, number-is (c .before .before .before .before .args .self .yymmdd), c .before .before .years-before .ensures, c .before .months-before .ensures)
-
-sub-result : tie.Need-sub-result
-sub-result c = search needs
+returns c = omega (
+  arith,
+  number-is (c .before .before .before .before .args .self .yymmdd),
+  c .before .before .years-before .ensures,
+  c .before .months-before .ensures,
+)
 
 returns-2 : tie.Need-returns-2
-returns-2 c = omega (arith, number-is (c .before .before .before .before .args .self .yymmdd), c .before .before .years-before .ensures, c .before .months-before .ensures)
+returns-2 c = omega (
+  arith,
+  number-is (c .before .before .before .before .args .self .yymmdd),
+  c .before .before .years-before .ensures,
+  c .before .months-before .ensures,
+)
 
 pub day-number-spec : {M : Type 1} → statement M
 day-number-spec =
     tie.close
     (tie.spec
-    cast-d
-    add-n
-    years-before-requires
-    add-months-before
-    months-before-requires
+    (λ c. search needs)
+    (λ c. search needs)
+    (λ c κs. search needs)
+    (λ c. search needs)
+    (λ c κs. search needs)
     add-days
     add-days-2
     returns
-    sub-result
+    (λ c. search needs)
     returns-2)

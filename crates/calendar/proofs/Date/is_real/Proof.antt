@@ -10,9 +10,6 @@ use borrow.Author.Needs.{needs}
 use Rattle.calendar.proofs.Date.is_real.Statement.{statement}
 use Rattle.calendar.proofs.Date.is_real.Tie as tie
 
-cast-d : tie.Need-cast-d
-cast-d c = search needs
-
 returns : tie.Need-returns
 unfolding realDate
 returns c = sym (fails-left _ _ (le-ltb _ 1000000 (c .if1 .taken)))
@@ -29,29 +26,25 @@ returns-4 : tie.Need-returns-4
 unfolding realDate
 returns-4 c = sym (fails-right _ _ (fails-right _ _ (between-below 1 _ _ (c .if4 .taken))))
 
-add-days-in : tie.Need-add-days-in
-add-days-in c = search needs
-
-add-days-in-2 : tie.Need-add-days-in-2
-add-days-in-2 c = search needs
-
-days-in-requires : tie.Need-days-in-requires
-days-in-requires c κs = search needs
-
 returns-5 : tie.Need-returns-5
 unfolding realDate between
-returns-5 c = sym (decides _ _ (lt-ltb _ 1000000 (c .before .before .before .before .if1 .left)) ∙ decides _ _ (between-in 1 12 _ (c .before .before .before .if2 .left) (c .before .before .if3 .left)) ∙ decides _ _ (le-leb 1 _ (c .before .if4 .left)) ∙ ap (leb _) (sym (c .days-in .ensures)))
+returns-5 c =
+    let at-if2 = c .before .before .before in
+    let at-if1 = at-if2 .before in
+    sym (decides _ _ (lt-ltb _ 1000000 (at-if1 .if1 .left))
+    ∙ decides _ _ (between-in 1 12 _ (at-if2 .if2 .left) (c .before .before .if3 .left))
+    ∙ decides _ _ (le-leb 1 _ (c .before .if4 .left)) ∙ ap (leb _) (sym (c .days-in .ensures)))
 
 pub is-real-spec : {M : Type 1} → statement M
 is-real-spec =
     tie.close
     (tie.spec
-    cast-d
+    (λ c. search needs)
     returns
     returns-2
     returns-3
     returns-4
-    add-days-in
-    add-days-in-2
-    days-in-requires
+    (λ c. search needs)
+    (λ c. search needs)
+    (λ c κs. search needs)
     returns-5)

@@ -31,35 +31,17 @@ turn c b e = up-by _ _ _ b (c .before .loop-test .taken) (sym (c .is-banking .en
 
 -- whether more than five lie after the date's own day
 told : (at : tie.At-loop Inv-loop μ-loop) (b : Bool) → ltb 5 (ahead at (at .before .day-number2 .result)) ≡ b
-    → let a = at .before .before .before .before .args in b ≡ tooOld (a .holidays .now) (a .self .yymmdd) (a .today .yymmdd)
+    → let a = at .before .before .before .before .args in b ≡ tooOld (a .holidays .now) (a .self) (a .today)
 unfolding tooOld bankingDaysAfter
 told at b h =
     let hs = at .before .before .before .before .args .holidays .now in
     sym h
     ∙ ap₂ (λ (d t : ℕ). ltb 5 (upTo hs t d)) (at .before .day-number2 .ensures) (at .before .before .day-number .ensures)
 
-day-number-requires : tie.Need-day-number-requires Inv-loop μ-loop
-day-number-requires c κs = search needs
-
-day-number-requires-2 : tie.Need-day-number-requires-2 Inv-loop μ-loop
-day-number-requires-2 c κs = search needs
-
-loop-holds : tie.Need-loop-holds Inv-loop μ-loop
-loop-holds c = omega arith
-
-add-k : tie.Need-add-k Inv-loop μ-loop
-add-k c = omega arith
-
 is-banking-requires : tie.Need-is-banking-requires Inv-loop μ-loop
 is-banking-requires c κs =
     let s = c .before .before .before .before .before in
     omega (arith, number-below (s .args .today .yymmdd), c .before .before .before .day-number .ensures)
-
-next-requires : tie.Need-next-requires Inv-loop μ-loop
-next-requires c κs = omega arith
-
-is-more-than-requires : tie.Need-is-more-than-requires Inv-loop μ-loop
-is-more-than-requires c κs = search needs
 
 returns : tie.Need-returns Inv-loop μ-loop
 unfolding one
@@ -70,9 +52,6 @@ returns c =
     let more = ltb-true 5 (met .result .0) (sym (c .before .is-more-than .ensures) ∙ c .if2 .taken) in
     told at true (lt-ltb 5 (ahead at _) (omega (arith, at .loop .inv, counted, met .ensures, more)))
 
-loop-less : tie.Need-loop-less Inv-loop μ-loop
-loop-less c = omega arith
-
 loop-again : tie.Need-loop-again Inv-loop μ-loop
 unfolding one
 loop-again c =
@@ -81,9 +60,6 @@ loop-again c =
     let counted = turn (c .before .before .before .before) true (c .before .before .before .if1 .taken) in
     let few = ltb-false 5 (met .result .0) (sym (c .before .is-more-than .ensures) ∙ c .if2 .left) in
     (few, omega (arith, i .1, met .ensures, counted))
-
-loop-less-2 : tie.Need-loop-less-2 Inv-loop μ-loop
-loop-less-2 c = omega arith
 
 loop-again-2 : tie.Need-loop-again-2 Inv-loop μ-loop
 unfolding one
@@ -103,16 +79,16 @@ is-too-old-spec =
     (tie.spec
     Inv-loop
     μ-loop
-    day-number-requires
-    day-number-requires-2
-    loop-holds
-    add-k
+    (λ c κs. search needs)
+    (λ c κs. search needs)
+    (λ c. omega arith)
+    (λ c. omega arith)
     is-banking-requires
-    next-requires
-    is-more-than-requires
+    (λ c κs. omega arith)
+    (λ c κs. search needs)
     returns
-    loop-less
+    (λ c. omega arith)
     loop-again
-    loop-less-2
+    (λ c. omega arith)
     loop-again-2
     returns-2)

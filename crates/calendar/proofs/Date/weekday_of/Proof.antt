@@ -6,14 +6,8 @@ use borrow.Author.Needs.{needs}
 use Rattle.calendar.proofs.Date.weekday_of.Statement.{statement}
 use Rattle.calendar.proofs.Date.weekday_of.Tie as tie
 
-day-number-requires : tie.Need-day-number-requires
-day-number-requires c κs = search needs
-
 add-result : tie.Need-add-result
 add-result c = omega (arith, number-below (c .before .args .self .yymmdd), c .day-number .ensures)
 
-returns : tie.Need-returns
-returns c = search needs
-
 pub weekday-of-spec : {M : Type 1} → statement M
-weekday-of-spec = tie.close (tie.spec day-number-requires add-result returns)
+weekday-of-spec = tie.close (tie.spec (λ c κs. search needs) add-result (λ c. search needs))

@@ -1,5 +1,4 @@
 -- The reply is the first part of its room.
-use Prim.Native.Nat.{_-_}
 use native.Mathlib.Omega.{arith}
 use mathlib.Core.Path.{sym}
 use lib.Seq.{length-take-le}
@@ -7,21 +6,9 @@ use borrow.Author.Needs.{needs}
 use Rattle.cli_receive.proofs.feeding.counted.Statement.{statement}
 use Rattle.cli_receive.proofs.feeding.counted.Tie as tie
 
-returns : tie.Need-returns
-returns c = search needs
-
-returns-2 : tie.Need-returns-2
-returns-2 c = search needs
-
 slice-aggregate-counted : tie.Need-slice-aggregate-counted
 slice-aggregate-counted c = sym (length-take-le _ _ (omega arith))
 
-counted-requires : tie.Need-counted-requires
-counted-requires c κs = search needs
-
-returns-3 : tie.Need-returns-3
-returns-3 c = search needs
-
 pub counted-spec : {M : Type 1} → statement M
 counted-spec =
-    tie.close (tie.spec returns returns-2 slice-aggregate-counted counted-requires returns-3)
+    tie.close (tie.spec (λ c. search needs) (λ c. search needs) slice-aggregate-counted (λ c κs. search needs) (λ c. search needs))

@@ -14,27 +14,6 @@ abbrev μ-loop : tie.MeasureT-loop
 loop-holds : tie.Need-loop-holds Inv-loop μ-loop
 loop-holds c = some-none _ _ _
 
-mul-read4 : tie.Need-mul-read4 Inv-loop μ-loop
-mul-read4 c = omega arith
-
-add-read4 : tie.Need-add-read4 Inv-loop μ-loop
-add-read4 c = omega arith
-
-read4-requires : tie.Need-read4-requires Inv-loop μ-loop
-read4-requires c κs = omega arith
-
-mul-out : tie.Need-mul-out Inv-loop μ-loop
-mul-out c = omega arith
-
-array-write-out : tie.Need-array-write-out Inv-loop μ-loop
-array-write-out c = omega arith
-
-add-i : tie.Need-add-i Inv-loop μ-loop
-add-i c = omega arith
-
-loop-less : tie.Need-loop-less Inv-loop μ-loop
-loop-less c = omega arith
-
 loop-again : tie.Need-loop-again Inv-loop μ-loop
 loop-again c =
     let l = c .before .before .loop in
@@ -44,7 +23,7 @@ returns : tie.Need-returns Inv-loop μ-loop
 returns c =
     let l = c .before .loop in
     let a = c .before .before .before in
-    some-all _ _ (l .i) _ (l .out) (a .pre .0) (a .pre .1) (omega arith) (l .inv)
+    some-all _ _ (l .i) _ (l .out) (a .pre .0) (omega arith) (l .inv)
 
 pub dates-at-spec : {M : Type 1} → statement M
 dates-at-spec =
@@ -53,12 +32,12 @@ dates-at-spec =
     Inv-loop
     μ-loop
     loop-holds
-    mul-read4
-    add-read4
-    read4-requires
-    mul-out
-    array-write-out
-    add-i
-    loop-less
+    (λ c. omega arith)
+    (λ c. omega arith)
+    (λ c κs. omega arith)
+    (λ c. omega arith)
+    (λ c. omega arith)
+    (λ c. omega arith)
+    (λ c. omega arith)
     loop-again
     returns)

@@ -4,12 +4,6 @@ use Rattle.table.specs.Table.{isUnknown}
 use Rattle.table.proofs.parts.is_unknown.Statement.{statement}
 use Rattle.table.proofs.parts.is_unknown.Tie as tie
 
-enum-told : tie.Need-enum-told
-enum-told c = search needs
-
-enum-told-2 : tie.Need-enum-told-2
-enum-told-2 c = search needs
-
 returns : tie.Need-returns
 unfolding isUnknown
 returns c = search needs
@@ -19,4 +13,4 @@ unfolding isUnknown
 returns-2 c = search needs
 
 pub is-unknown-spec : {M : Type 1} → statement M
-is-unknown-spec = tie.close (tie.spec enum-told enum-told-2 returns returns-2)
+is-unknown-spec = tie.close (tie.spec (λ c. search needs) (λ c. search needs) returns returns-2)

@@ -7,7 +7,7 @@ use native.Mathlib.Omega.{arith}
 use lib.ListN.{getD}
 use Rattle.ground.specs.Lists.{part}
 use Rattle.ground.proofs.Choices.{eq-same}
-use Rattle.text.proofs.Lists.{differ-at}
+use Rattle.ground.proofs.Lists.{differ-at}
 use Rattle.splices.proofs.Splice
 use Rattle.splices.proofs.Chunks
 use Rattle.table.proofs.parts.same_at.Statement.{statement}
@@ -22,26 +22,12 @@ abbrev μ-loop : tie.MeasureT-loop
 loop-holds : tie.Need-loop-holds Inv-loop μ-loop
 loop-holds c = (omega arith, below-none _)
 
-add-if1 : tie.Need-add-if1 Inv-loop μ-loop
-add-if1 c = omega arith
-
-shared-slice-read-if1 : tie.Need-shared-slice-read-if1 Inv-loop μ-loop
-shared-slice-read-if1 c = omega arith
-
-array-read-if1 : tie.Need-array-read-if1 Inv-loop μ-loop
-array-read-if1 c = omega arith
-
 returns : tie.Need-returns Inv-loop μ-loop
 returns c =
     let l = c .before .before .before .loop in
     let a = c .before .before .before .before .args in
-    differ-at (part (a .at) 25 (a .t .now)) (a .t3) (l .i) (λ q. c .if1 .taken (sym (Splice.getD-part _ _ _ _ (omega arith)) ∙ q))
-
-add-i : tie.Need-add-i Inv-loop μ-loop
-add-i c = omega arith
-
-loop-less : tie.Need-loop-less Inv-loop μ-loop
-loop-less c = omega arith
+    differ-at (a .t3) (part (a .at) 25 (a .t .now)) (l .i)
+    (λ q. c .if1 .taken (sym (Splice.getD-part _ _ _ _ (omega arith)) ∙ sym q))
 
 loop-again : tie.Need-loop-again Inv-loop μ-loop
 loop-again c = (omega arith, below-more _ _ (c .before .before .before .loop .inv .1) (c .if1 .left))
@@ -50,8 +36,9 @@ returns-2 : tie.Need-returns-2 Inv-loop μ-loop
 returns-2 c =
     let l = c .before .loop in
     let a = c .before .before in
-    sym (eq-same (part (a .args .at) 25 (a .args .t .now)) (a .args .t3)
-    (sym (Chunks.filled-part (a .args .t .now) (a .args .t3) (a .args .at) 25 (a .pre) (search needs) (λ k h. sym (l .inv .1 k (omega arith))))))
+    sym (eq-same (a .args .t3) (part (a .args .at) 25 (a .args .t .now))
+    (Chunks.filled-part (a .args .t .now) (a .args .t3) (a .args .at) 25 (a .pre) (search needs)
+    (λ k h. sym (l .inv .1 k (omega arith)))))
 
 pub same-at-spec : {M : Type 1} → statement M
 same-at-spec =
@@ -60,11 +47,11 @@ same-at-spec =
     Inv-loop
     μ-loop
     loop-holds
-    add-if1
-    shared-slice-read-if1
-    array-read-if1
+    (λ c. omega arith)
+    (λ c. omega arith)
+    (λ c. omega arith)
     returns
-    add-i
-    loop-less
+    (λ c. omega arith)
+    (λ c. omega arith)
     loop-again
     returns-2)

@@ -4,7 +4,7 @@ use Prim.Native.Nat.{_+_, _*_, _-_}
 use native.Mathlib.Omega.{arith}
 use borrow.Author.Tests.{not-true, not-false}
 use Rattle.ground.proofs.Choices.{fails-left, decides}
-use Rattle.record.specs.Layout.{customerAt}
+use Rattle.customer_bytes.specs.Layout.{customerAt}
 use Rattle.table.specs.Tests.{okRecords}
 use Rattle.table.proofs.Turns
 use Rattle.table.proofs.tests.are_customers.Statement.{statement}
@@ -19,9 +19,6 @@ abbrev μ-loop : tie.MeasureT-loop
 loop-holds : tie.Need-loop-holds Inv-loop μ-loop
 loop-holds c = (refl, refl)
 
-is-exact-at-requires : tie.Need-is-exact-at-requires Inv-loop μ-loop
-is-exact-at-requires c κs = omega arith
-
 returns : tie.Need-returns Inv-loop μ-loop
 returns c =
     let l = c .before .before .before .loop in
@@ -29,12 +26,6 @@ returns c =
     sym (l .inv .1
     ∙ Turns.records-step (customerAt (l .p) b) (l .p) (l .left) (l .left - 1) b (omega arith) refl
     ∙ fails-left _ _ (sym (c .before .is-exact-at .ensures) ∙ not-true _ (c .if1 .taken)))
-
-load-at-requires : tie.Need-load-at-requires Inv-loop μ-loop
-load-at-requires c κs = omega arith
-
-is-sound-requires : tie.Need-is-sound-requires Inv-loop μ-loop
-is-sound-requires c κs = omega arith
 
 returns-2 : tie.Need-returns-2 Inv-loop μ-loop
 returns-2 c =
@@ -46,32 +37,19 @@ returns-2 c =
     ∙ decides _ _ (sym (c .before .before .before .before .is-exact-at .ensures) ∙ not-false _ (c .before .before .before .if1 .left))
     ∙ fails-left _ _ (sym (c .before .is-sound .ensures) ∙ not-true _ (c .if2 .taken)))
 
-add-p : tie.Need-add-p Inv-loop μ-loop
-add-p c = omega arith
-
-sub-left : tie.Need-sub-left Inv-loop μ-loop
-sub-left c = omega arith
-
-find-from-requires : tie.Need-find-from-requires Inv-loop μ-loop
-find-from-requires c κs = omega arith
-
-is-unknown-requires : tie.Need-is-unknown-requires Inv-loop μ-loop
-is-unknown-requires c κs = omega arith
-
 returns-3 : tie.Need-returns-3 Inv-loop μ-loop
 returns-3 c =
     let l = c .before .before .before .before .before .before .before .before .before .before .loop in
     let b = c .before .before .before .before .before .before .before .before .before .before .before .before .args .t .now in
     let x = c .before .before .before .before .before .before .load-at in
     let f = c .before .before .find-from in
-    let e = sym (c .before .before .before .before .before .before .before .before .is-exact-at .ensures) ∙ not-false _ (c .before .before .before .before .before .before .before .if1 .left) in
-    let s = sym (c .before .before .before .before .before .is-sound .ensures) ∙ not-false _ (c .before .before .before .before .if2 .left) in
+    let e = sym (c .before .before .before .before .before .before .before .before .is-exact-at .ensures)
+    ∙ not-false _ (c .before .before .before .before .before .before .before .if1 .left) in
+    let s = sym (c .before .before .before .before .before .is-sound .ensures)
+    ∙ not-false _ (c .before .before .before .before .if2 .left) in
     sym (l .inv .1
     ∙ Turns.records-turn (x .result) (f .result) (l .p) (l .left) (l .left - 1) b (omega arith) e (x .ensures) s (f .ensures)
     ∙ fails-left _ _ (sym (c .before .is-unknown .ensures) ∙ not-true _ (c .if3 .taken)))
-
-loop-less : tie.Need-loop-less Inv-loop μ-loop
-loop-less c = omega arith
 
 loop-again : tie.Need-loop-again Inv-loop μ-loop
 loop-again c =
@@ -79,8 +57,10 @@ loop-again c =
     let b = c .before .before .before .before .before .before .before .before .before .before .before .before .args .t .now in
     let x = c .before .before .before .before .before .before .load-at in
     let f = c .before .before .find-from in
-    let e = sym (c .before .before .before .before .before .before .before .before .is-exact-at .ensures) ∙ not-false _ (c .before .before .before .before .before .before .before .if1 .left) in
-    let s = sym (c .before .before .before .before .before .is-sound .ensures) ∙ not-false _ (c .before .before .before .before .if2 .left) in (
+    let e = sym (c .before .before .before .before .before .before .before .before .is-exact-at .ensures)
+    ∙ not-false _ (c .before .before .before .before .before .before .before .if1 .left) in
+    let s = sym (c .before .before .before .before .before .is-sound .ensures)
+    ∙ not-false _ (c .before .before .before .before .if2 .left) in (
       omega arith,
       l .inv .1
           ∙ Turns.records-turn (x .result) (f .result) (l .p) (l .left) (l .left - 1) b (omega arith) e (x .ensures) s (f .ensures)
@@ -99,16 +79,16 @@ are-customers-spec =
     Inv-loop
     μ-loop
     loop-holds
-    is-exact-at-requires
+    (λ c κs. omega arith)
     returns
-    load-at-requires
-    is-sound-requires
+    (λ c κs. omega arith)
+    (λ c κs. omega arith)
     returns-2
-    add-p
-    sub-left
-    find-from-requires
-    is-unknown-requires
+    (λ c. omega arith)
+    (λ c. omega arith)
+    (λ c κs. omega arith)
+    (λ c κs. omega arith)
     returns-3
-    loop-less
+    (λ c. omega arith)
     loop-again
     returns-4)

@@ -6,7 +6,6 @@ use borrow.Author.Needs.{needs}
 use borrow.Author.Tests.{not-true, not-false}
 use native.Mathlib.Omega.{arith}
 use Rattle.ground.proofs.Choices.{fails-left, decides}
-use Rattle.splices.proofs.Splice.{numAt-fits}
 use Rattle.table.specs.Tests.{datesAt, okDates}
 use Rattle.table.proofs.Turns
 use Rattle.table.proofs.tests.are_dates.Statement.{statement}
@@ -22,23 +21,15 @@ abbrev μ-loop : tie.MeasureT-loop
 returns : tie.Need-returns Inv-loop μ-loop
 returns c = Turns.dates-empty _ _ _ (c .if1 .taken)
 
-read4-requires : tie.Need-read4-requires Inv-loop μ-loop
-read4-requires c κs = search needs
-
-sub-left : tie.Need-sub-left Inv-loop μ-loop
-sub-left c = omega arith
-
 loop-holds : tie.Need-loop-holds Inv-loop μ-loop
 loop-holds c =
     let a = c .before .before .before in
     let e : a .args .n ≡ suc (a .args .n - 1) = omega arith in (
       omega arith,
       ap okDates (Turns.dates-suc (a .args .at) (a .args .n) (a .args .n - 1) (a .args .t .now) e
-          ∙ ap (λ (x : ℕ). x ∷ datesAt (a .args .at + 4) (a .args .n - 1) (a .args .t .now)) (sym (c .read4 .ensures ∙ numAt-fits 4 _ _ (omega (arith, a .pre))))),
+          ∙ ap (λ (x : ℕ). x ∷ datesAt (a .args .at + 4) (a .args .n - 1) (a .args .t .now))
+          (sym (c .read4 .ensures))),
     )
-
-is-real-requires : tie.Need-is-real-requires Inv-loop μ-loop
-is-real-requires c κs = search needs
 
 returns-2 : tie.Need-returns-2 Inv-loop μ-loop
 returns-2 c =
@@ -47,39 +38,23 @@ returns-2 c =
     sym (l .inv .1 ∙ Turns.dates-step (l .low .yymmdd) (l .p + 4) (l .left) (l .left - 1) (a .args .t .now) (omega arith)
     ∙ fails-left _ _ (sym (c .before .is-real .ensures) ∙ not-true _ (c .if2 .taken)))
 
-add-p : tie.Need-add-p Inv-loop μ-loop
-add-p c = omega arith
-
-sub-left-2 : tie.Need-sub-left-2 Inv-loop μ-loop
-sub-left-2 c = omega arith
-
-read4-requires-2 : tie.Need-read4-requires-2 Inv-loop μ-loop
-read4-requires-2 c κs = search needs
-
-before-requires : tie.Need-before-requires Inv-loop μ-loop
-before-requires c κs = search needs
-
 returns-3 : tie.Need-returns-3 Inv-loop μ-loop
 returns-3 c =
     let l = c .before .before .before .before .before .before .loop in
     let a = c .before .before .before .before .before .before .before .before .before .before in
     let r = sym (c .before .before .before .before .is-real .ensures) ∙ not-false _ (c .before .before .before .if2 .left) in
-    let s = Turns.dates-turn (l .low .yymmdd) (c .before .before .read42 .result) (l .p + 4) (l .left) (l .left - 1) (a .args .t .now) (omega arith) (omega (arith, a .pre)) r (c .before .before .read42 .ensures) in
+    let s = Turns.dates-turn (l .low .yymmdd) (c .before .before .read42 .result) (l .p + 4) (l .left) (l .left - 1) (a .args .t .now)
+    (omega arith) r (c .before .before .read42 .ensures) in
     sym (l .inv .1 ∙ s ∙ fails-left _ _ (sym (c .before .before2 .ensures) ∙ not-true _ (c .if3 .taken)))
-
-loop-less : tie.Need-loop-less Inv-loop μ-loop
-loop-less c = omega arith
 
 loop-again : tie.Need-loop-again Inv-loop μ-loop
 loop-again c =
     let l = c .before .before .before .before .before .before .loop in
     let a = c .before .before .before .before .before .before .before .before .before .before in
     let r = sym (c .before .before .before .before .is-real .ensures) ∙ not-false _ (c .before .before .before .if2 .left) in
-    let s = Turns.dates-turn (l .low .yymmdd) (c .before .before .read42 .result) (l .p + 4) (l .left) (l .left - 1) (a .args .t .now) (omega arith) (omega (arith, a .pre)) r (c .before .before .read42 .ensures) in
+    let s = Turns.dates-turn (l .low .yymmdd) (c .before .before .read42 .result) (l .p + 4) (l .left) (l .left - 1) (a .args .t .now)
+    (omega arith) r (c .before .before .read42 .ensures) in
     (omega arith, l .inv .1 ∙ s ∙ decides _ _ (sym (c .before .before2 .ensures) ∙ not-false _ (c .if3 .left)))
-
-is-real-requires-2 : tie.Need-is-real-requires-2 Inv-loop μ-loop
-is-real-requires-2 c κs = search needs
 
 returns-4 : tie.Need-returns-4 Inv-loop μ-loop
 returns-4 c =
@@ -93,17 +68,17 @@ are-dates-spec =
     Inv-loop
     μ-loop
     returns
-    read4-requires
-    sub-left
+    (λ c κs. search needs)
+    (λ c. omega arith)
     loop-holds
-    is-real-requires
+    (λ c κs. search needs)
     returns-2
-    add-p
-    sub-left-2
-    read4-requires-2
-    before-requires
+    (λ c. omega arith)
+    (λ c. omega arith)
+    (λ c κs. search needs)
+    (λ c κs. search needs)
     returns-3
-    loop-less
+    (λ c. omega arith)
     loop-again
-    is-real-requires-2
+    (λ c κs. search needs)
     returns-4)

@@ -8,44 +8,18 @@ use borrow.Author.Needs.{needs}
 use Rattle.table.proofs.tests.is_header.Statement.{statement}
 use Rattle.table.proofs.tests.is_header.Tie as tie
 
-read4-requires : tie.Need-read4-requires
-read4-requires c κs = search needs
-
 returns : tie.Need-returns
 returns c = no-header _ (λ h. omega (arith, h .holidays, c .before .read4 .ensures))
-
-read4-requires-2 : tie.Need-read4-requires-2
-read4-requires-2 c κs = search needs
 
 returns-2 : tie.Need-returns-2
 returns-2 c = no-header _ (λ h. omega (arith, h .customers, c .before .read42 .ensures))
 
-read4-requires-3 : tie.Need-read4-requires-3
-read4-requires-3 c κs = search needs
-
 returns-3 : tie.Need-returns-3
 returns-3 c = no-header _ (λ h. c .if3 .taken (c .before .read43 .ensures ∙ h .start))
 
-mul-start : tie.Need-mul-start
-mul-start c = search needs
-
-add-start : tie.Need-add-start
-add-start c = search needs
-
-read4-requires-4 : tie.Need-read4-requires-4
-read4-requires-4 c κs = search needs
-
 returns-4 : tie.Need-returns-4
-returns-4 c = no-header _ (λ h. c .if4 .taken (omega (arith, h .offset, c .before .read44 .ensures, c .before .before .before .before .before .before .before .read4 .ensures)))
-
-read4-requires-5 : tie.Need-read4-requires-5
-read4-requires-5 c κs = search needs
-
-mul-result : tie.Need-mul-result
-mul-result c = search needs
-
-add-result : tie.Need-add-result
-add-result c = search needs
+returns-4 c = no-header _ (λ h. c .if4 .taken
+    (omega (arith, h .offset, c .before .read44 .ensures, c .before .before .before .before .before .before .before .read4 .ensures)))
 
 returns-5 : tie.Need-returns-5
 returns-5 c =
@@ -68,17 +42,17 @@ pub is-header-spec : {M : Type 1} → statement M
 is-header-spec =
     tie.close
     (tie.spec
-    read4-requires
+    (λ c κs. search needs)
     returns
-    read4-requires-2
+    (λ c κs. search needs)
     returns-2
-    read4-requires-3
+    (λ c κs. search needs)
     returns-3
-    mul-start
-    add-start
-    read4-requires-4
+    (λ c. search needs)
+    (λ c. search needs)
+    (λ c κs. search needs)
     returns-4
-    read4-requires-5
-    mul-result
-    add-result
+    (λ c κs. search needs)
+    (λ c. search needs)
+    (λ c. search needs)
     returns-5)

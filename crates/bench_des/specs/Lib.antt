@@ -1,0 +1,2 @@
+-- What the contracts of `bench_des` cite.
+pub mod Again

@@ -1,0 +1,2 @@
+-- What the contracts of `bench_table` cite.
+pub mod Counted

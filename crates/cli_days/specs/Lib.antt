@@ -1,0 +1,2 @@
+-- What the contracts of `cli_days` cite.
+pub mod Far

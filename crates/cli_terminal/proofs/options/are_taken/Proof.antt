@@ -1,0 +1,29 @@
+-- Nothing has to hold from turn to turn; what is left falls.
+use Prim.Native.Nat.{_-_}
+use borrow.Author.Needs.{needs}
+use native.Mathlib.Omega.{arith}
+use Rattle.cli_terminal.proofs.options.are_taken.Statement.{statement}
+use Rattle.cli_terminal.proofs.options.are_taken.Tie as tie
+
+abbrev Inv-loop : tie.InvT-loop
+Inv-loop later explain n at₀ at = Unit {0}
+
+abbrev μ-loop : tie.MeasureT-loop
+μ-loop later explain n at₀ at = n - at
+
+pub are-taken-spec : {M : Type 1} → statement M
+are-taken-spec =
+    tie.close
+    (tie.spec
+    Inv-loop
+    μ-loop
+    (λ c κs. search needs)
+    (λ c. tt)
+    (λ c κs. search needs)
+    (λ c κs. search needs)
+    (λ c κs. search needs)
+    (λ c. search needs)
+    (λ c. omega arith)
+    (λ c. omega arith)
+    (λ c. tt)
+    (λ c. search needs))

@@ -1,0 +1,27 @@
+-- Nothing has to hold from turn to turn; what is left falls.
+use Prim.Native.Nat.{_-_}
+use borrow.Author.Needs.{needs}
+use native.Mathlib.Omega.{arith}
+use Rattle.cli_terminal.proofs.options.is_given.Statement.{statement}
+use Rattle.cli_terminal.proofs.options.is_given.Tie as tie
+
+abbrev Inv-loop : tie.InvT-loop
+Inv-loop option n at₀ at = Unit {0}
+
+abbrev μ-loop : tie.MeasureT-loop
+μ-loop option n at₀ at = n - at
+
+pub is-given-spec : {M : Type 1} → statement M
+is-given-spec =
+    tie.close
+    (tie.spec
+    Inv-loop
+    μ-loop
+    (λ c κs. search needs)
+    (λ c. tt)
+    (λ c κs. search needs)
+    (λ c. search needs)
+    (λ c. omega arith)
+    (λ c. omega arith)
+    (λ c. tt)
+    (λ c. search needs))

@@ -1,0 +1,3 @@
+-- What the contracts of `cli_words` cite.
+pub mod Parts
+pub mod Forms

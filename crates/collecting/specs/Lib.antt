@@ -1,1 +1,0 @@
--- What private contracts of `collecting` cite.

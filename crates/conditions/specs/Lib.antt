@@ -1,3 +1,0 @@
--- What the contracts of `conditions` cite.
-pub mod Refusals
-pub mod Length

@@ -1,0 +1,2 @@
+-- What the contracts of `customer_bytes` cite.
+pub mod Layout

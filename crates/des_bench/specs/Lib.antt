@@ -1,2 +1,0 @@
--- What the contracts of `des_bench` cite.
-pub mod Again

@@ -1,1 +1,0 @@
--- What private contracts of `front` cite.

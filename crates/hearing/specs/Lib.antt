@@ -1,1 +1,0 @@
--- What private contracts of `hearing` cite.

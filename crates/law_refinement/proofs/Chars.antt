@@ -1,0 +1,158 @@
+-- Characters kept up to 161: the first of them, and whether those past them are blank, say all that a message asks.
+-- Assumes nothing.
+use Prim.Native.Nat.{ℕ, zero, suc, _+_, _-_, _≤_, _<_, min}
+use Prim.Native.String.{String}
+use mathlib.Core.Path.{_≡_, refl, sym, ap, ap₂, _∙_}
+use mathlib.Core.Bool.{Bool, true, false}
+use mathlib.Core.List.{List, [], _∷_, _++_, append-assoc}
+use native.Mathlib.Nat.{not-suc-le-zero, le-of-suc-le-suc}
+use native.Mathlib.Omega.{arith}
+use borrow.Author.Tests.{ltb-true, ltb-false, lt-ltb, le-ltb, eqb-true, eqb-false, eq-eqb, ne-eqb}
+use lib.Dec.{eqb, ltb}
+use lib.ListN.{length, take, drop, set, replicate, length-append, length-take, length-replicate, take-append-drop}
+use lib.Seq.{take-all, take-append-le, take-append-add, set-append-seam, take-take, take-append-seam}
+use Rattle.ground.specs.Choice.{both, pick, fails}
+use Rattle.ground.specs.Lists.{all, same, part}
+use Rattle.ground.proofs.Lists.{all-append, drop-take, take-zeros}
+use Rattle.text.specs.Characters.{blank, digit, allBlank}
+use Rattle.text.specs.Numbers.{decimal}
+use Rattle.text.specs.Letters.{letters}
+use Rattle.message.specs.Layout.{layoutLength, layout, total}
+use Rattle.message.specs.declared.Extent.{Extent}
+use Rattle.message.specs.declared.Extent.the-variants.{Whole, TooShort, LengthNotDigits, OtherLength}
+use Rattle.message.specs.declared.Kind.{Kind}
+use Rattle.message.specs.declared.Kind.the-variants.{Esi, Suo, Var}
+use Rattle.whole_file.specs.Records.{cr, withoutCr}
+use Rattle.whole_file.specs.Messages.{begins, headLength, extentOf, wantsMore, textOf}
+
+-- ---- one CR at the end
+
+pub without-cr : (l : List ℕ) → withoutCr (l ++ (cr ∷ [])) ≡ l
+unfolding withoutCr pick
+without-cr [] = refl
+without-cr (x ∷ []) = refl
+without-cr (x ∷ y ∷ l) = ap (λ (k : List ℕ). x ∷ k) (without-cr (y ∷ l))
+
+pub without-other : (l : List ℕ) (c : ℕ) → eqb c cr ≡ false → withoutCr (l ++ (c ∷ [])) ≡ l ++ (c ∷ [])
+unfolding withoutCr pick
+without-other [] c e = rw e
+without-other (x ∷ []) c e = rw e
+without-other (x ∷ y ∷ l) c e = ap (λ (k : List ℕ). x ∷ k) (without-other (y ∷ l) c e)
+
+-- ---- tests over two lists in one
+
+pub eqb-turned : (a b : ℕ) → eqb a b ≡ eqb b a
+eqb-turned a b = go (eqb b a) refl
+  where
+    go : (t : Bool) → eqb b a ≡ t → eqb a b ≡ t
+    go true e = eq-eqb a b (sym (eqb-true b a e))
+    go false e = ne-eqb a b (λ p. eqb-false b a e (sym p))
+
+-- a list of one
+pub all-one : (b c : ℕ) → all (eqb b) (c ∷ []) ≡ eqb c b
+unfolding all both
+all-one b c = go (eqb b c) refl ∙ eqb-turned b c
+  where
+    go : (t : Bool) → eqb b c ≡ t → both t true ≡ eqb b c
+    go true e = sym e
+    go false e = sym e
+
+-- ---- parts
+
+pub drop-split : (m n : ℕ) (l : List ℕ) → m ≤ n → drop m l ≡ drop m (take n l) ++ drop n l
+drop-split zero n l h = sym (take-append-drop n l)
+drop-split (suc m) zero l h = absurd (not-suc-le-zero h)
+drop-split (suc m) (suc n) [] h = refl
+drop-split (suc m) (suc n) (x ∷ l) h = drop-split m n l (le-of-suc-le-suc h)
+
+-- ---- the text: zeros after the last character
+
+pub text-short : (l : List ℕ) → length l ≤ 161 → textOf l ≡ l ++ replicate (161 - length l) 0
+unfolding textOf
+text-short l h =
+    let e : 161 ≡ length l + (161 - length l) = omega arith in
+    ap (λ (n : ℕ). take n (l ++ replicate 161 0)) e
+    ∙ take-append-add l (replicate 161 0) (161 - length l)
+    ∙ ap (λ (k : List ℕ). l ++ k) (take-zeros (161 - length l) 161 (omega arith))
+
+pub text-long : (l : List ℕ) → 161 ≤ length l → textOf l ≡ take 161 l
+unfolding textOf
+text-long l h = take-append-le 161 l (replicate 161 0) h
+
+pub text-length : (l : List ℕ) → length (textOf l) ≡ 161
+unfolding textOf
+text-length l = simp (length-take, length-append, length-replicate) (omega arith)
+
+-- one more character stands after the last
+pub text-more : (l : List ℕ) (c : ℕ) → length l < 161 → set (textOf l) (length l) c ≡ textOf (l ++ (c ∷ []))
+text-more l c h =
+    let m : ℕ = 161 - (length l + 1) in
+    let z : 161 - length l ≡ suc m = omega arith in
+    let n : length (l ++ (c ∷ [])) ≡ length l + 1 = simp length-append (omega arith) in
+    ap (λ (t : List ℕ). set t (length l) c) (text-short l (omega arith) ∙ ap (λ (k : ℕ). l ++ replicate k 0) z)
+    ∙ set-append-seam l 0 (replicate m 0) c
+    ∙ sym (text-short (l ++ (c ∷ [])) (omega arith) ∙ ap (λ (k : ℕ). (l ++ (c ∷ [])) ++ replicate (161 - k) 0) n
+    ∙ append-assoc l (c ∷ []) (replicate m 0))
+
+-- and past the room it stays
+pub text-full : (l k : List ℕ) → 161 ≤ length l → textOf l ≡ textOf (l ++ k)
+text-full l k h =
+    let n : 161 ≤ length (l ++ k) = simp length-append (omega arith) in
+    text-long l h ∙ sym (text-long (l ++ k) n ∙ take-append-le 161 l k h)
+
+-- what is kept
+pub text-held : (l : List ℕ) → take (min 161 (length l)) (textOf l) ≡ take 161 l
+text-held l = go (ltb (length l) 161) refl
+  where
+    go : (t : Bool) → ltb (length l) 161 ≡ t → take (min 161 (length l)) (textOf l) ≡ take 161 l
+    go true e =
+        let h : length l < 161 = ltb-true _ _ e in
+        let m : min 161 (length l) ≡ length l = omega arith in
+        ap₂ take m (text-short l (omega arith)) ∙ take-append-seam l _ ∙ sym (take-all 161 l (omega arith))
+    go false e =
+        let h : 161 ≤ length l = ltb-false _ _ e in
+        let m : min 161 (length l) ≡ 161 = omega arith in
+        ap₂ take m (text-long l h) ∙ take-take 161 161 l (omega arith)
+
+-- ---- what a message asks of its characters it asks of the first 161
+
+ltb-least : (n k : ℕ) → k ≤ 161 → ltb (min 161 n) k ≡ ltb n k
+ltb-least n k h = go (ltb n k) refl
+  where
+    go : (t : Bool) → ltb n k ≡ t → ltb (min 161 n) k ≡ t
+    go true e = lt-ltb (min 161 n) k (omega (arith, ltb-true n k e))
+    go false e = le-ltb (min 161 n) k (omega (arith, ltb-false n k e))
+
+kept-length : (l : List ℕ) (k : ℕ) → k ≤ 161 → ltb (length (take 161 l)) k ≡ ltb (length l) k
+kept-length l k h = ap (λ (n : ℕ). ltb n k) (length-take 161 l) ∙ ltb-least (length l) k h
+
+pub layout-within : (kind : Kind) → layoutLength kind ≤ 161
+unfolding layoutLength layout total
+layout-within Esi = omega arith
+layout-within Suo = omega arith
+layout-within Var = omega arith
+
+pub begins-kept : (s : String) (l : List ℕ) → begins s (take 161 l) ≡ begins s l
+unfolding begins
+begins-kept s l = ap (λ (k : List ℕ). same k (letters s)) (take-take 5 161 l (omega arith))
+
+pub wants-kept : (kind : Kind) (l : List ℕ) → wantsMore kind (take 161 l) ≡ wantsMore kind l
+unfolding wantsMore
+wants-kept kind l = kept-length l (layoutLength kind) (layout-within kind)
+
+part-kept : (l : List ℕ) → part 5 3 (take 161 l) ≡ part 5 3 l
+unfolding part
+part-kept l = ap (take 3) (drop-take 5 156 161 l refl) ∙ take-take 3 156 (drop 5 l) (omega arith)
+
+abbrev told : Kind → Bool → List ℕ → Extent
+told kind short p =
+    pick short TooShort
+    (pick (fails (all digit p)) LengthNotDigits (pick (fails (eqb (decimal p) (layoutLength kind))) OtherLength Whole))
+
+pub extent-kept : (kind : Kind) (l : List ℕ) → extentOf kind (take 161 l) ≡ extentOf kind l
+unfolding extentOf
+extent-kept kind l = ap₂ (told kind) (kept-length l headLength (omega arith)) (part-kept l)
+
+-- blanks past the layout's length are those among the first 161 and those past them
+pub blank-kept : (k : ℕ) (l : List ℕ) → k ≤ 161 → both (allBlank (drop k (take 161 l))) (allBlank (drop 161 l)) ≡ allBlank (drop k l)
+blank-kept k l h = sym (ap allBlank (drop-split k 161 l h) ∙ all-append (eqb blank) (drop k (take 161 l)) (drop 161 l))

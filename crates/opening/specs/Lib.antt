@@ -1,0 +1,1 @@
+-- What is given at opening has no definitions of its own.

@@ -1,0 +1,174 @@
+-- What is left, from where the scan stands, gives the whole, and the round keys are those of the one-time key there.
+use Prim.Native.Nat.{_≤_, _-_}
+use mathlib.Core.Path.{_≡_, sym, ap, _∙_}
+use native.Mathlib.Omega.{arith}
+use lib.ListN.{length}
+use Rattle.des.specs.Des.{scheduleOf}
+use Rattle.checks.specs.Checks.{keyOr0}
+use Rattle.session.specs.Events.{silent}
+use Rattle.session.specs.Machine.{Scan, scanned}
+use Rattle.read_bytes.proofs.Scans.{left-at, run-key, run-length, runs-through, goes-on, replied, all-taken, from-start}
+use borrow.Author.Needs.{needs}
+use Rattle.read_bytes.proofs.scan.Statement.{statement}
+use Rattle.read_bytes.proofs.scan.Tie as tie
+
+abbrev Inv-loop : tie.InvT-loop
+Inv-loop t₀ input sbox at₀ key₀ keys₀ i₀ t at key keys i =
+    (i ≤ length input)
+    × (length t ≡ length t₀)
+    × (key ≡ keyOr0 (at .batch .once))
+    × (keys ≡ scheduleOf key)
+    × (left-at input i at t ≡ scanned at₀ t₀ input)
+
+abbrev μ-loop : tie.MeasureT-loop
+μ-loop t₀ input sbox at₀ key₀ keys₀ i₀ t at key keys i = length input - i
+
+loop-holds : tie.Need-loop-holds Inv-loop μ-loop
+loop-holds c =
+    let a = c .before .before .before .before .before .args in
+    (search needs, search needs, c .before .batch-key .ensures, c .schedule .ensures, from-start (a .input .now) (a .s) (a .t .now))
+
+sub-run-on : tie.Need-sub-run-on Inv-loop μ-loop
+sub-run-on c = c .before .before .run-end .ensures .starts
+
+part-run-on-start : tie.Need-part-run-on-start Inv-loop μ-loop
+part-run-on-start c = omega (arith, c .before .before .run-end .ensures .starts)
+
+part-run-on-end : tie.Need-part-run-on-end Inv-loop μ-loop
+part-run-on-end c = omega (arith, c .before .before .run-end .ensures .starts, c .before .before .run-end .ensures .within)
+
+run-on-requires : tie.Need-run-on-requires Inv-loop μ-loop
+run-on-requires c κs =
+    let a = c .before .before .before .before .before .before .before .before .before .before .before .before .args in
+    let l = c .before .before .before .before .before .before .loop in
+    let r = c .before .before .before .run-end .ensures in (
+      c .before .before .before .before .before .before .before .before .before .box-table .ensures,
+      l .inv .3 ∙ ap scheduleOf (l .inv .2),
+      rw (run-length (a .input .now) (l .i) (l .at) (l .t) _ r (c .before .before .if1 .taken)) (r .fits),
+    )
+
+loop-less : tie.Need-loop-less Inv-loop μ-loop
+loop-less c = omega (arith, c .before .before .before .before .run-end .ensures .within)
+
+loop-again : tie.Need-loop-again Inv-loop μ-loop
+loop-again c =
+    let a = c .before .before .before .before .before .before .before .before .before .before .before .before .before .args in
+    let l = c .before .before .before .before .before .before .before .loop in
+    let r = c .before .before .before .before .run-end .ensures in (
+      r .within,
+      l .inv .1,
+      l .inv .2 ∙ run-key _ _ _ (c .run-on .ensures),
+      l .inv .3,
+      runs-through (a .input .now) (l .i) (l .at) (l .t) _ r (c .before .before .before .if1 .taken) (c .run-on .ensures) ∙ l .inv .4,
+    )
+
+step-requires : tie.Need-step-requires Inv-loop μ-loop
+step-requires c κs =
+    let at-loop = c .before .before .before .before .before .before .before in
+    let at-box-table = at-loop .before .before .before in
+    let l = at-loop .loop .inv in (at-box-table .box-table .ensures, l .3 ∙ ap scheduleOf (l .2))
+
+add-i : tie.Need-add-i Inv-loop μ-loop
+add-i c = omega (
+  arith,
+  c .before .before .before .before .before .before .before .before .before .before .before .loop-test .taken,
+  c .before .before .before .before .before .before .before .before .before .before .before .before .before .before .before .before
+      .before .before .good .1 .1 .0 .1,
+)
+
+returns : tie.Need-returns Inv-loop μ-loop
+unfolding silent
+returns c =
+    let at-step = c .before .before .before .before .before in
+    let at-loop-test = at-step .before .before .before .before .before .before .before in
+    let at-loop = at-loop-test .before in
+    let at-args = at-loop .before .before .before .before .before .before in
+    let a = at-args .args in
+    let l = at-loop .loop in
+    let e = replied (a .input .now) (l .i) (l .at) (l .t) (at-loop-test .loop-test .taken) (at-step .step .ensures) (c .if2 .taken)
+    ∙ l .inv .4 in (
+      (
+        ap (λ (x : Scan). x .turn .out .session) e,
+        ap (λ (x : Scan). x .turn .out .reply) e,
+        ap (λ (x : Scan). x .taken) e,
+      ),
+      ap (λ (x : Scan). x .turn .table) e,
+    )
+
+loop-again-2 : tie.Need-loop-again-2 Inv-loop μ-loop
+loop-again-2 c = (
+  omega arith,
+  search needs,
+  c .before .before .batch-key2 .ensures,
+  c .schedule2 .ensures,
+  let a = c .before .before .before .before .before .before .before .before .before .before .before .before .before .before .before
+      .before .before .before .before .before .before .before .args in
+      let l = c .before .before .before .before .before .before .before .before .before .before .before .before .before .before
+      .before .before .loop in
+      goes-on (a .input .now) (l .i) (l .at) (l .t)
+      (c .before .before .before .before .before .before .before .before .before .before .before .before .before .before
+      .before .loop-test .taken) (c .before .before .before .before .before .before .before .before .step .ensures) (c .before
+      .before .before .if2 .left) ∙ l .inv .4,
+)
+
+loop-again-3 : tie.Need-loop-again-3 Inv-loop μ-loop
+loop-again-3 c = (
+  omega arith,
+  search needs,
+  sym (c .if3 .left) ∙ c .before .batch-key2 .ensures,
+  c .before .before .before .before .before .before .before .before .before .before .before .before .before .before .before .loop .inv .3,
+  let a = c .before .before .before .before .before .before .before .before .before .before .before .before .before .before .before
+      .before .before .before .before .before .before .args in
+      let l = c .before .before .before .before .before .before .before .before .before .before .before .before .before .before
+      .before .loop in
+      goes-on (a .input .now) (l .i) (l .at) (l .t)
+      (c .before .before .before .before .before .before .before .before .before .before .before .before .before
+      .before .loop-test .taken) (c .before .before .before .before .before .before .before .step .ensures) (c .before
+      .before .if2 .left) ∙ l .inv .4,
+)
+
+returns-2 : tie.Need-returns-2 Inv-loop μ-loop
+unfolding silent
+returns-2 c =
+    let a = c .before .before .before .before .before .before .before .before .args in
+    let l = c .before .before .loop in
+    let e = all-taken (a .input .now) (l .i) (l .at) (l .t) (c .before .loop-test .left) ∙ l .inv .4 in (
+      (
+        ap (λ (x : Scan). x .turn .out .session) e,
+        c .no-reply .ensures ∙ ap (λ (x : Scan). x .turn .out .reply) e,
+        ap (λ (x : Scan). x .taken) e,
+      ),
+      ap (λ (x : Scan). x .turn .table) e,
+    )
+
+pub scan-spec : {M : Type 1} → statement M
+scan-spec =
+    tie.close
+    (tie.spec
+    Inv-loop
+    μ-loop
+    (λ c κs. search needs)
+    (λ c κs. search needs)
+    (λ c κs. search needs)
+    loop-holds
+    (λ c κs. omega arith)
+    sub-run-on
+    part-run-on-start
+    part-run-on-end
+    run-on-requires
+    loop-less
+    loop-again
+    (λ c. omega arith)
+    step-requires
+    add-i
+    (λ c. search needs)
+    returns
+    (λ c κs. search needs)
+    (λ c κs. search needs)
+    (λ c. omega arith)
+    loop-again-2
+    (λ c. omega arith)
+    loop-again-3
+    (λ c κs. search needs)
+    (λ c. search needs)
+    returns-2)

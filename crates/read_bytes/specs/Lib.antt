@@ -1,0 +1,2 @@
+-- What private contracts of `read_bytes` cite.
+pub mod Runs

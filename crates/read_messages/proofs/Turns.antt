@@ -1,0 +1,57 @@
+-- What an event gives is the definition's turn, by the tests and cases that led to it: one law for each kind of step, over any turn.
+-- Assumes nothing.
+use mathlib.Core.Path.{_≡_, refl, sym, ap, _∙_, subst}
+use mathlib.Core.Bool.{Bool, true, false, not}
+use mathlib.Core.List.{List}
+use Prim.Native.Nat.{ℕ}
+use Rattle.ground.specs.Choice.{pick}
+use Rattle.ground.proofs.Choices.{picks, skips}
+use Rattle.message.specs.declared.Extent.{Extent}
+use Rattle.whole_file.specs.Messages.{isWhole}
+use Rattle.session.specs.Events.{Turn, silent, replies, bareTurn}
+use Rattle.session.specs.declared.Session.{Session}
+use Rattle.session.specs.declared.Stepped.{Stepped}
+
+-- the session and the reply r with the table v are those of x
+abbrev pub Gives : Stepped → List ℕ → Turn → Type 0
+Gives r v x = (r ≡ x .out) × (v ≡ x .table)
+
+-- ---- a choice by a test, and by whether the first record stands alone
+
+module _ {A : Type 0} (P : A → Type 0) (x y : A) where
+  pub taken : (t b : Bool) → b ≡ t → b ≡ true → P x → P (pick t x y)
+  taken t b e h p = subst P (sym (picks t x y (sym e ∙ h))) p
+
+  pub left : (t b : Bool) → b ≡ t → b ≡ false → P y → P (pick t x y)
+  left t b e h p = subst P (sym (skips t x y (sym e ∙ h))) p
+
+module _ {A : Type 0} (P : A → Type 0) (x : A) (f : Extent → A) (n m : Extent) (e : n ≡ m) (b : Bool) (h : b ≡ isWhole n) where
+  pub goes-on : b ≡ true → P x → P (pick (isWhole m) x (f m))
+  goes-on t p = taken P x (f m) (isWhole m) b (h ∙ ap isWhole e) t p
+
+  pub alone : b ≡ false → P (f n) → P (pick (isWhole m) x (f m))
+  alone t p = left P x (f m) (isWhole m) b (h ∙ ap isWhole e) t (subst (λ (k : Extent). P (f k)) e p)
+
+-- ---- no reply, and a bare one: the table stays
+
+module _ (w : List ℕ) {r : Stepped} {a b : Session} where
+  pub quietly : ((v : List ℕ) → r ≡ silent a v .out) → a ≡ b → Gives r w (silent b w)
+  unfolding silent
+  quietly h e = (h w ∙ ap (λ (z : Session). silent z w .out) e, refl)
+
+  pub barely : (s : Session) (pte : Bool) (code field : ℕ) → r ≡ bareTurn s w pte code field a .out → a ≡ b
+      → Gives r w (bareTurn s w pte code field b)
+  unfolding bareTurn replies
+  barely s pte code field h e = (h ∙ ap (λ (z : Session). bareTurn s w pte code field z .out) e, refl)
+
+-- ---- a case of an enum
+
+pub by-case : {A : Type 0} {p q : A} {r : Stepped} {v : List ℕ} (f : A → Turn) → p ≡ q → Gives r v (f q) → Gives r v (f p)
+by-case {A} {p} {q} {r} {v} f e g = subst (λ (x : A). Gives r v (f x)) (sym e) g
+
+pub turned : (b t : Bool) → b ≡ t → not b ≡ pick t false true
+unfolding pick
+turned true true e = refl
+turned true false e = cc
+turned false true e = cc
+turned false false e = refl

@@ -1,0 +1,55 @@
+-- Each answer by the tests that led to it; the length's digits stand before the cut.
+use native.Mathlib.Omega.{arith}
+use Rattle.ground.specs.Lists.{part}
+use borrow.Author.Tests.{not-true, not-false}
+use Rattle.read_messages.proofs.Kept.{under-eleven, letters-in-it, other-length, its-length}
+use borrow.Author.Needs.{needs}
+use Rattle.read_messages.proofs.extent_in.Statement.{statement}
+use Rattle.read_messages.proofs.extent_in.Tie as tie
+
+returns : tie.Need-returns
+returns c = under-eleven _ (c .before .before .args .count) (c .before .before .args .t2) (omega (arith, c .before .kept-count .ensures .0))
+
+returns-2 : tie.Need-returns-2
+unfolding part
+returns-2 c = letters-in-it _ (c .before .before .before .before .before .before .args .count)
+    (c .before .before .before .before .before .before .args .t2)
+    (omega (arith, c .before .before .before .before .before .kept-count .ensures .0)) _ (c .before .all-digits .ensures)
+    (not-true _ (c .if2 .taken))
+
+returns-3 : tie.Need-returns-3
+unfolding part
+returns-3 c = other-length _ (c .before .before .before .before .before .before .before .before .before .before .before .args .count)
+    (c .before .before .before .before .before .before .before .before .before .before .before .args .t2)
+    (omega (arith, c .before .before .before .before .before .before .before .before .before .before .kept-count .ensures .0)) _
+    (c .before .before .before .before .before .before .all-digits .ensures)
+    (not-false _ (c .before .before .before .before .before .if2 .left)) _ (c .before .before .number .ensures) _
+    (c .before .length-of .ensures) (c .if3 .taken)
+
+returns-4 : tie.Need-returns-4
+unfolding part
+returns-4 c = its-length _ (c .before .before .before .before .before .before .before .before .before .before .before .args .count)
+    (c .before .before .before .before .before .before .before .before .before .before .before .args .t2)
+    (omega (arith, c .before .before .before .before .before .before .before .before .before .before .kept-count .ensures .0)) _
+    (c .before .before .before .before .before .before .all-digits .ensures)
+    (not-false _ (c .before .before .before .before .before .if2 .left)) _ (c .before .before .number .ensures) _
+    (c .before .length-of .ensures) (c .if3 .left)
+
+pub extent-in-spec : {M : Type 1} → statement M
+extent-in-spec =
+    tie.close
+    (tie.spec
+    (λ c κs. search needs)
+    returns
+    (λ c. search needs)
+    (λ c. search needs)
+    (λ c. search needs)
+    (λ c κs. search needs)
+    returns-2
+    (λ c. search needs)
+    (λ c. search needs)
+    (λ c. search needs)
+    (λ c κs. search needs)
+    (λ c κs. search needs)
+    returns-3
+    returns-4)

@@ -1,0 +1,1 @@
+-- What private contracts of `read_records` cite.

@@ -1,4 +1,0 @@
--- Laws that belong to no one function.
-pub mod Refusing
-pub mod Opening
-pub mod Serving

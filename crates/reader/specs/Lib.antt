@@ -1,2 +1,0 @@
--- What private contracts of `reader` cite.
-pub mod Lent

@@ -1,0 +1,56 @@
+-- What is left of the dates decides.
+use mathlib.Core.Path.{_≡_, refl}
+use Prim.Native.Nat.{_≤_, _-_}
+use native.Mathlib.Omega.{arith}
+use lib.ListN.{length, drop}
+use Rattle.ground.specs.Lists.{all}
+use Rattle.ground.proofs.Bools.{passed, refused}
+use Rattle.calendar.specs.Dates.{realDate}
+use Rattle.refusals.proofs.Dates.{all-stop, all-more, all-done}
+use borrow.Author.Needs.{needs}
+use Rattle.refusals.proofs.are_real.Statement.{statement}
+use Rattle.refusals.proofs.are_real.Tie as tie
+
+abbrev Inv-loop : tie.InvT-loop
+Inv-loop dates i₀ i = (i ≤ length dates) × (all realDate dates ≡ all realDate (drop i dates))
+
+abbrev μ-loop : tie.MeasureT-loop
+μ-loop dates i₀ i = length dates - i
+
+loop-holds : tie.Need-loop-holds Inv-loop μ-loop
+loop-holds c = (omega arith, refl)
+
+returns : tie.Need-returns Inv-loop μ-loop
+returns c =
+    let at-loop-test = c .before .before .before in
+    let at-loop = at-loop-test .before in
+    let at-args = at-loop .before .before in
+    all-stop (at-args .args .dates .now) (at-loop .loop .i) (at-loop-test .loop-test .taken) (at-loop .loop .inv .1)
+    (refused (c .before .is-real .ensures) (c .if1 .taken))
+
+loop-again : tie.Need-loop-again Inv-loop μ-loop
+loop-again c = (
+  omega arith,
+  all-more (c .before .before .before .before .before .before .args .dates .now)
+      (c .before .before .before .before .loop .i) (c .before .before .before .loop-test .taken)
+      (c .before .before .before .before .loop .inv .1) (passed (c .before .is-real .ensures) (c .if1 .left)),
+)
+
+returns-2 : tie.Need-returns-2 Inv-loop μ-loop
+returns-2 c = all-done (c .before .before .before .args .dates .now) (c .before .loop .i) (omega arith) (c .before .loop .inv .1)
+
+pub are-real-spec : {M : Type 1} → statement M
+are-real-spec =
+    tie.close
+    (tie.spec
+    Inv-loop
+    μ-loop
+    loop-holds
+    (λ c. search needs)
+    (λ c. search needs)
+    (λ c κs. search needs)
+    returns
+    (λ c. search needs)
+    (λ c. search needs)
+    loop-again
+    returns-2)

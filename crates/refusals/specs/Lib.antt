@@ -1,0 +1,3 @@
+-- What the contracts of `refusals` cite.
+pub mod Refusals
+pub mod Length

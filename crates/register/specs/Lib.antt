@@ -1,2 +1,0 @@
--- What the contracts of `register` cite.
-pub mod Calls

@@ -1,2 +1,0 @@
--- What private contracts of `scanning` cite.
-pub mod Runs

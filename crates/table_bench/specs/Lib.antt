@@ -1,2 +1,0 @@
--- What the contracts of `table_bench` cite.
-pub mod Counted

@@ -1,0 +1,3 @@
+-- What the contracts of `table_calls` cite.
+pub mod Calls
+pub mod Promises

@@ -1,3 +1,0 @@
--- What the contracts of `words` cite.
-pub mod Parts
-pub mod Forms
