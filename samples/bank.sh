@@ -1,4 +1,6 @@
+# shellcheck shell=sh
 # Sourced by samples/run and tests/: the program and the sample bank. Needs: root (the repository), program (its path).
+: "${root:?}" "${program:?}"
 lentilpot() { sh "$root/scripts/runbin" "$program" "$@"; }
 
 # Sets up the sample bank in a file: document 001, appendix 3's customer, added without a changeover length; and one that differs in the qualifier alone.

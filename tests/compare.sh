@@ -8,28 +8,42 @@ set -eu
 cd "$(dirname "$0")/.."
 seed=${1:-1} cases=${2:-100000}
 command -v cargo >/dev/null 2>&1 || { echo "compare: 'cargo' is not on the PATH." >&2; exit 2; }
+work=$(mktemp -d)
+beside=
+# A shell has its background jobs ignore Ctrl-C, so the run beside is ended here.
+leave() {
+    [ -z "$beside" ] || { kill "$beside" && wait "$beside"; } 2>/dev/null || true
+    rm -rf "$work"
+}
+trap leave EXIT
+trap 'exit 129' HUP
+trap 'exit 130' INT
+trap 'exit 143' TERM
+quiet() { "$@" >"$work/log" 2>&1 || { cat "$work/log" >&2; exit 1; }; }
 if [ -z "${LENTILPOT_LIB:-}" ]; then
-    log=$(mktemp)
-    trap 'rm -f "$log"' EXIT
-    sh scripts/nativelib edge >"$log" 2>&1 || { cat "$log" >&2; exit 1; }
+    quiet sh scripts/nativelib edge
     LENTILPOT_LIB=$PWD/target/native
 fi
 export LENTILPOT_LIB
-cd rust/compare
-cargo test --release --offline --quiet -j 1
-cargo build --release --offline --quiet -j 1
+cd rust
+quiet cargo test --release --locked --offline --quiet -j 1 -p model -p compare
+quiet cargo build --release --locked --offline --quiet -j 1 -p compare
+
+# Two runs side by side: the first is begun, and ended with the second.
+begin() { # WORDS..
+    target/release/compare "$@" >"$work/beside" 2>&1 &
+    beside=$!
+}
+end() { # WORDS..
+    target/release/compare "$@" || exit 1
+    wait "$beside" || { cat "$work/beside" >&2; exit 1; }
+    beside=
+    cat "$work/beside"
+}
 # The cases in two halves, side by side; then, side by side too, the planted faults, and a file to the byte past the size limit and
 # several ways past it.
 half=$((cases / 2))
-beside=$(mktemp)
-target/release/compare "$seed" "$half" >"$beside" 2>&1 &
-first=$!
-target/release/compare $((seed + half)) $((cases - half)) || { kill "$first"; exit 1; }
-wait "$first" || { cat "$beside" >&2; exit 1; }
-cat "$beside"
-target/release/compare size >"$beside" 2>&1 &
-size=$!
-target/release/compare planted "$seed" "$cases" || { kill "$size"; exit 1; }
-wait "$size" || { cat "$beside" >&2; exit 1; }
-cat "$beside"
-rm -f "$beside"
+begin "$seed" "$half"
+end $((seed + half)) $((cases - half))
+begin size
+end planted "$seed" "$cases"

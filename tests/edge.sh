@@ -20,21 +20,19 @@ if [ -z "${LENTILPOT_LIB:-}" ]; then
     LENTILPOT_LIB=$PWD/target/native
 fi
 export LENTILPOT_LIB
-strict="-std=c99 -Wall -Wextra -Wpedantic -Werror -O2 -Iinclude"
+strict() { cc -std=c99 -Wall -Wextra -Wpedantic -Werror -O2 -Iinclude "$@"; }
 fail() { echo "edge: $*" >&2; exit 1; }
 
 # ---- the header and the Rust declarations
 
-# shellcheck disable=SC2086
-cc $strict rust/lentilpot/tests/known.c "$LENTILPOT_LIB/libedge.a" -o "$work/known"
+strict rust/lentilpot/tests/known.c "$LENTILPOT_LIB/libedge.a" -o "$work/known"
 "$work/known" >"$work/known.txt"
 cmp "$work/known.txt" rust/lentilpot/tests/known.txt || {
     echo "edge: the C program's answers (<) differ from the known ones (>):" >&2
     diff "$work/known.txt" rust/lentilpot/tests/known.txt >&2
     exit 1
 }
-# shellcheck disable=SC2086
-cc $strict tests/box.c "$LENTILPOT_LIB/libedge.a" -o "$work/box"
+strict tests/box.c "$LENTILPOT_LIB/libedge.a" -o "$work/box"
 "$work/box" samples/payments.txt >&2 || fail "the header's helpers or constants are wrong"
 if command -v c++ >/dev/null 2>&1; then
     c++ -Wall -Wextra -Wpedantic -Werror -Iinclude -fsyntax-only -x c++ include/lentilpot.h
@@ -50,7 +48,7 @@ awk '/^(CODE|REFUSED)_/ { print }
 awk '/^pub mod/ { kind = toupper($3) }
     /pub const/ { gsub(/[:;]/, ""); sub(/\.\./, " "); print kind "_" $3, $6 ($7 == "" ? "" : " " $7) }' \
     rust/lentilpot/src/constants.rs | LC_ALL=C sort >"$work/constants.rust"
-[ -s "$work/constants.c" ] && diff "$work/constants.c" "$work/constants.rust" >&2 || fail "the constants of the header (<) differ from those in Rust (>)"
+{ [ -s "$work/constants.c" ] && diff "$work/constants.c" "$work/constants.rust" >&2; } || fail "the constants of the header (<) differ from those in Rust (>)"
 # Every code of the definition has a name, and ACCEPTED is in those of K.
 sed -nE 's/.*(taken|refused|barely|code =) (10[0-9][0-9]).*/\1 \2/p' crates/notice/specs/Codes.antt |
     awk '{ print $NF, $1 == "taken" ? "K" : "E" }' | LC_ALL=C sort >"$work/codes"
@@ -59,17 +57,21 @@ sed -n 's/^CODE_\(.*\) \(.*\)/\2 \1/p' "$work/header" | awk '{ print $1, $2 ~ /^
 version=$(sed -n 's/^VERSION "\(.*\)"$/\1/p' "$work/header")
 grep -qx "version = \"$version.0\"" rust/lentilpot/Cargo.toml || fail "LP_VERSION is $version, and not the crate's version"
 
-(cd rust/lentilpot && cargo test --offline --quiet -j 1 && cargo build --offline --quiet -j 1 --examples) >"$work/log" 2>&1 ||
+(cd rust && cargo test --locked --offline --quiet -j 1 -p lentilpot && cargo build --locked --offline --quiet -j 1 -p lentilpot --examples) \
+    >"$work/log" 2>&1 ||
     { cat "$work/log" >&2; exit 1; }
 
 # ---- receiving, from C and from Rust
 
-examples=$root/rust/lentilpot/target/debug/examples
-# shellcheck disable=SC2086
-cc $strict samples/receive.c "$LENTILPOT_LIB/libedge.a" -o "$work/c"
+examples=$root/rust/target/debug/examples
+strict samples/receive.c "$LENTILPOT_LIB/libedge.a" -o "$work/c"
 cp "$examples/receive" "$work/rust"
 cd "$place"
 "$examples/set_up" old
+cp old kept
+{ ! "$examples/set_up" old 2>told && cmp -s old kept; } || fail "set_up replaces a table"
+case $(ls -l old) in -rw-------*) ;; *) fail "set_up makes a table that others can read" ;; esac
+rm kept told
 payments=$root/samples/payments.txt
 head -n 6 "$payments" >accepted
 : >empty
@@ -101,16 +103,21 @@ none() { # STATUS TEXT WORDS..
     ls -lA --time-style=+ 2>/dev/null >../after || ls -A >../after
     diff ../before ../after >&2 || fail "$side: receive $*: something was left over"
 }
-mode() { ls -ln "$1" | awk '{ print substr($1, 1, 10), $3, $4 }'; }
+# Types what was told, in another folder.
+typed() {
+    command=$(sed -n 's/.*To mend: //p' ../err)
+    { [ -n "$command" ] && (cd / && eval "$command"); } || fail "$side: the mend '$command' failed"
+}
+mode() { stat -c '%A %u %g' "$1"; }
 
 served() {
     fresh
-    # shellcheck disable=SC2086
+    # shellcheck disable=SC2086 # $at is four words
     {
         run 1 t "$payments" $at r
-        cmp out ../listing && [ "$(LC_ALL=C awk '{ print length($0) }' r | tr '\n' ' ')" = "237 317 317 317 317 " ] ||
+        { cmp out ../listing && [ "$(LC_ALL=C awk '{ print length($0) }' r | tr '\n' ' ')" = "237 317 317 317 317 " ]; } ||
             fail "$side: receiving samples/payments.txt: $(cat out)"
-        [ "$(ls -A | tr '\n' ' ')" = "err out r t " ] || fail "$side: something was left over: $(ls -A)"
+        [ "$(ls -A)" = "$(printf '%s\n' err out r t)" ] || fail "$side: something was left over: $(ls -A)"
         cp t "../$side.table" && cp r "../$side.replies"
         run 1 t "$payments" $at again
         [ "$(cat out)" = "E 1018" ] || fail "$side: a stamp was accepted twice"
@@ -119,9 +126,18 @@ served() {
         [ "$(cat out)" = "$(printf 'K 1001\nK 1001')" ] || fail "$side: two K were expected"
         # An empty file has no reply; the day is saved all the same.
         run 0 t ../empty 941016 091500 3 0000000000000007 none
-        [ ! -s out ] && [ -f none ] && [ ! -s none ] || fail "$side: an empty file has no reply"
+        { [ ! -s out ] && [ -f none ] && [ ! -s none ]; } || fail "$side: an empty file has no reply"
+        grep -qF "no message stood in it, so there is no reply; the table's day is now 941016" err || fail "$side: an empty file isn't told"
         run 1 t ../empty $at refused
-        grep -qF "the day is before" err && [ ! -e refused ] || fail "$side: a day before the table's was taken"
+        { grep -qF "refused: 941015 is before the table's day 941016" err && [ ! -e refused ]; } || fail "$side: a day before the table's was taken"
+        # a day far past the table's is asked for with a word of its own
+        cp t ../held
+        run 2 t ../empty 941117 091500 3 0000000000000007 far
+        { grep -qF "more than 31 days after the table's day" err && [ ! -e far ] && cmp -s t ../held; } || fail "$side: a far day was taken"
+        run 0 t ../empty 941116 091500 3 0000000000000007 near
+        run 0 t ../empty 960301 091500 3 0000000000000007 far later
+        run 2 t ../empty 960402 091500 3 0000000000000007 leap
+        run 0 t ../empty 960401 091500 3 0000000000000007 leap
     }
 }
 
@@ -131,7 +147,7 @@ modes() {
         chmod $bits t
         [ "$(id -u)" -ne 0 ] || chown 65534:65534 t
         before=$(mode t)
-        # shellcheck disable=SC2086
+        # shellcheck disable=SC2086 # $at is four words
         (umask 0 && run 1 t "$payments" $at r)
         [ "$(mode t)" = "$before" ] || fail "$side: the table was $before and is $(mode t)"
         case $(mode r) in -rw-------*) ;; *) fail "$side: the replies are $(mode r)" ;; esac
@@ -139,15 +155,20 @@ modes() {
 }
 
 # Names that must not be taken: the table's, the lock's, the replies'.
-# shellcheck disable=SC2086
+# shellcheck disable=SC2086 # $at is four words
 names() {
     fresh
     echo $$ >t.lock
-    none 2 "TABLE.new is there: the table was not changed" t "$payments" $at r
-    rm t.lock
+    none 2 "the table is in use by process $$: try again" t "$payments" $at r
+    printf '%010d AAAAAAAAAAAAAAAA\n' $$ >t.lock
+    none 2 "a lock that this program did not write" t "$payments" $at r
+    : >t.lock
+    none 2 "To mend: rm '$place/in/t.lock'" t "$payments" $at r
+    typed
     : >t.new
-    none 2 "whose lock was removed: remove this" t "$payments" $at r
-    rm t.new
+    none 2 "whose lock was removed. To mend: rm '$place/in/t.new'" t "$payments" $at r
+    typed
+    [ "$(ls -A)" = t ] || fail "$side: the mends left something: $(ls -A)"
     echo kept >r.new
     none 2 "of another run, perhaps on another table" t "$payments" $at r
     rm r.new
@@ -155,6 +176,8 @@ names() {
     for r in file link dangling fifo folder t t.lock t.new; do none 2 "never replaced" t "$payments" $at "$r"; done
     [ "$(cat file)" = kept ] || fail "$side: replies were replaced"
     none 2 "expected" t "$payments" $at ""
+    none 2 "control characters" t "$payments" $at "$(printf 'a\nb')"
+    none 2 "at most 244 bytes" t "$payments" $at "$(printf '%0245d' 0)"
     none 2 "No such file" t "$payments" $at none/r
     none 2 "No such file" t none $at r
     none 2 "" t folder $at r
@@ -185,8 +208,9 @@ words() {
     none 2 "receive TABLE FILE DATE" t "$payments" 941015 091500 3 0000000000000007
     none 2 "receive TABLE FILE DATE" t "$payments" 941015 091500 3 0000000000000007 r more
     # These have the form, and the call refuses them.
-    none 1 "a date or time isn't real" t "$payments" 941301 091500 3 0000000000000007 r
-    none 1 "a date or time isn't real" t "$payments" 941015 246060 3 0000000000000007 r
+    none 1 "941301 isn't a real date; the table's day is 941015" t "$payments" 941301 091500 3 0000000000000007 r
+    none 1 "950229 isn't a real date; the table's day is 941015" t "$payments" 950229 091500 3 0000000000000007 r
+    none 1 "246060 isn't a real time; the table's day is 941015" t "$payments" 941015 246060 3 0000000000000007 r
     none 1 "outside its limits" t "$payments" 941015 091500 17 0000000000000007 r
     head -c 49152 /dev/zero >t && cp t ../old
     none 1 "no table is written" t "$payments" 941015 091500 3 0000000000000007 r
@@ -195,10 +219,10 @@ words() {
 
 # Where the listing can't be written the table and the replies stand all the same.
 unlisted() {
-    [ "$status" -eq 2 ] && grep -qF "stand in REPLIES" err && cmp -s t "../$side.table" && cmp -s r "../$side.replies" &&
-        [ ! -e t.lock ] || fail "$side: $1: status $status, $(cat err)"
+    { [ "$status" -eq 2 ] && grep -qF "stand in REPLIES" err && cmp -s t "../$side.table" && cmp -s r "../$side.replies" &&
+        [ ! -e t.lock ]; } || fail "$side: $1: status $status, $(cat err)"
 }
-# shellcheck disable=SC2086
+# shellcheck disable=SC2086 # $at is four words
 outputs() {
     if [ -c /dev/full ]; then
         fresh
@@ -215,7 +239,7 @@ outputs() {
         fresh
         status=0
         eval "timeout 5 $work/c t '$payments' $at r $closed" >../told 2>&1 || status=$?
-        [ "$status" -eq 2 ] && cmp -s t ../old && [ "$(ls -A)" = t ] || fail "c: with $closed: status $status, $(ls -A)"
+        { [ "$status" -eq 2 ] && cmp -s t ../old && [ "$(ls -A)" = t ]; } || fail "c: with $closed: status $status, $(ls -A)"
     done
 }
 
@@ -227,7 +251,7 @@ for side in c rust; do
     outputs
 done
 cd "$place"
-cmp c.table rust.table && cmp c.replies rust.replies || fail "C and Rust differ"
+{ cmp c.table rust.table && cmp c.replies rust.replies; } || fail "C and Rust differ"
 
 # ---- the order of writes, and every moment at which it can be cut off
 
@@ -258,10 +282,10 @@ END
 order() {
     fresh
     mkdir bank out && mv t bank/t
-    # shellcheck disable=SC2086
+    # shellcheck disable=SC2086 # $at is four words
     strace -y -o ../trace -e "trace=/^($(echo $calls | tr ' ' '|'))\$" "$work/$side" bank/t "$payments" $at out/r >../listed || true
     cmp ../listed ../listing
-    sed -n "s|<$place/in/|<|
+    sed -n "s|$place/in/||g
         s/^open.*\"\(.*\)\", .*O_CREAT|O_EXCL.*/make \1/p
         s/^fsync([0-9]*<\([^>]*\)>.*/flush \1/p
         s/^rename.*\"\(.*\)\".*= 0/name \1/p
@@ -273,7 +297,7 @@ order() {
 disowned() {
     fresh
     chmod 640 t
-    # shellcheck disable=SC2086
+    # shellcheck disable=SC2086 # $at is four words
     strace -qq -o ../trace -e trace=fchown -e inject=fchown:error=EPERM "$work/$side" t "$payments" $at r >out || true
     cmp out ../listing
     case $(mode t) in -rw-------*) ;; *) fail "$side: the owner wasn't kept, and the mode is $(mode t)" ;; esac
@@ -284,7 +308,7 @@ stands() {
     if cmp -s t "../$side.table"; then is=new; elif cmp -s t ../old; then is=old; else fail "$1: the table isn't whole"; fi
     [ ! -e t.new ] || [ $is = old ] || fail "$1: t.new is there and the table was changed"
     if [ $is = old ]; then
-        [ ! -e r ] && [ ! -s out ] || fail "$1: replies to a table that wasn't saved"
+        { [ ! -e r ] && [ ! -s out ]; } || fail "$1: replies to a table that wasn't saved"
         [ -e t.new ] || [ ! -e r.new ] || fail "$1: without t.new r.new says that the table was saved"
         [ -e t.new ] || [ ! -e t.lock ] || [ "$(wc -l <t.lock)" -lt 2 ] || fail "$1: the lock says that the table was saved"
     else
@@ -294,39 +318,42 @@ stands() {
 }
 # The program on the same table finds a lock that isn't its own, and changes nothing; once for each state.
 refused_by_program() {
-    state="$side $is $(ls -A | tr '\n' ' ') $(wc -l <t.lock)"
+    state="$side $is $(echo ./*) $(wc -l <t.lock)"
     [ -x "$program" ] && ! grep -qxF "$state" ../states || return 0
     echo "$state" >>../states
     cp t ../t.before
     got=0
     sh "$root/scripts/runbin" "$program" order t 941015 99910000011111111 "" 0000000000000001 >../said 2>../told || got=$?
-    [ $got -eq 2 ] && [ ! -s ../said ] && cmp -s t ../t.before || fail "$1: lentilpot went on over the lock"
+    { [ $got -eq 2 ] && [ ! -s ../said ] && cmp -s t ../t.before; } || fail "$1: lentilpot went on over the lock"
     grep -qE 'a lock that this program did not write|a run that has just begun' ../told || fail "$1: lentilpot says: $(cat ../told)"
 }
-# What the lock's text tells to do; then the file once more. Its stamps are accepted exactly if they weren't before.
+# What the next run tells to type, in another folder; then the file once more. Its stamps are accepted exactly if they weren't before.
 mend() {
     [ ! -e t.lock ] || refused_by_program "$1"
-    if [ -e t.new ]; then
-        [ ! -e t.lock ] || [ "$(wc -l <t.lock)" -lt 2 ] || rm -f r.new
-        rm t.new
-    elif [ -e r.new ] && [ $is = new ]; then
-        mv r.new r
-    fi
-    rm -f t.lock
+    while [ -e t.lock ] || [ -e t.new ]; do
+        rm -f out err
+        # shellcheck disable=SC2086 # $at is four words
+        run 2 t "$payments" $at mended
+        mv out err ..
+        typed
+    done
+    # replies that were begun, and not named in the lock yet, are nobody's
+    [ $is = new ] || [ ! -e r.new ] || { nobodys=$((nobodys + 1)); rm r.new; }
+    { [ ! -e r.new ] && [ ! -e mended ]; } || fail "$1: the mend left something: $(ls -A)"
     [ $is = old ] || cmp -s r "../$side.replies" || fail "$1: the mend lost the replies"
-    # shellcheck disable=SC2086
+    # shellcheck disable=SC2086 # $at is four words
     run 1 t "$payments" $at again
     if [ $is = new ]; then echo 'E 1018' >../want; else cp ../listing ../want; fi
-    cmp -s out ../want && cmp -s t "../$side.table" || fail "$1: received again: $(cat out)"
+    { cmp -s out ../want && cmp -s t "../$side.table"; } || fail "$1: received again: $(cat out)"
 }
 # A call failed: it is told, or didn't matter; and nothing is left over of a run that changed nothing.
 told() {
     case $status in
-    1) cmp -s out ../listing && [ "$(ls -A | tr '\n' ' ')" = "err out r t " ] || fail "$1: status 1, and not all was done" ;;
+    1) { cmp -s out ../listing && [ "$(ls -A)" = "$(printf '%s\n' err out r t)" ]; } || fail "$1: status 1, and not all was done" ;;
     2 | 127) [ -s err ] || fail "$1: it isn't told" ;;
     *) fail "$1: status $status" ;;
     esac
-    [ $is = new ] || [ "$(ls -A | tr '\n' ' ')" = "err out t " ] || fail "$1: left over: $(ls -A)"
+    [ $is = new ] || [ "$(ls -A)" = "$(printf '%s\n' err out t)" ] || fail "$1: left over: $(ls -A)"
 }
 # Each call in turn is the last one (killed), or fails and the run goes on to tell it.
 cuts() { # HOW FILE
@@ -336,7 +363,7 @@ cuts() { # HOW FILE
             n=$((n + 1)) status=0
             fresh && rm -f ../trace
             # In braces, for bash says in between that a process was killed.
-            # shellcheck disable=SC2086
+            # shellcheck disable=SC2086 # $at is four words
             {
                 strace -qq -o ../trace -e "trace=$call" -e "inject=$call:$1:when=$n" "$work/$side" t "$2" $at r >out 2>err || status=$?
             } 2>/dev/null
@@ -350,7 +377,7 @@ cuts() { # HOW FILE
     done
 }
 
-moments=0 old=0 new=0
+moments=0 old=0 new=0 nobodys=0
 program=${PROGRAM:-$root/target/program/lentilpot}
 : >states
 for side in c rust; do
@@ -361,6 +388,6 @@ for side in c rust; do
     # A folder can't be read: the run gives up, and is cut off in that.
     cuts signal=KILL ..
 done
-[ $old -gt 0 ] && [ $new -gt 0 ] || fail "every moment gave the same table"
+{ [ $old -gt 0 ] && [ $new -gt 0 ]; } || fail "every moment gave the same table"
 echo "edge: header, Rust declarations, C sample and Rust example agree; cut off or failing at $moments calls, $old left the old table and $new the new one with its replies"
 [ -x "$program" ] || echo "edge: lentilpot isn't built, so that what it says of their locks was not tested"

@@ -14,7 +14,7 @@ fail() { echo "tests/explain: $*" >&2; cat out told >&2 2>/dev/null; exit 1; }
 # The layout: name, offset and width of each field, as specs/ has them.
 awk '/^ *field [0-9]+ "/ { split($0, part, "\""); n = split(part[3], width, " "); print part[2], at + 0, width[1]; at += width[1] }' \
     "$root/crates/message/specs/Layout.antt" | head -22 >layout
-[ "$(wc -l <layout)" -eq 22 ] && [ "$(tail -1 layout)" = "AVAINVAIHTO 160 1" ] || fail "the layout could not be read"
+{ [ "$(wc -l <layout)" -eq 22 ] && [ "$(tail -1 layout)" = "AVAINVAIHTO 160 1" ]; } || fail "the layout could not be read"
 
 # A message of the sample file, alone in its line, with one field written over.
 damaged() { # LINE OFFSET WIDTH CHARACTER
@@ -24,10 +24,8 @@ damaged() { # LINE OFFSET WIDTH CHARACTER
     } { print }' "$root/samples/good.txt" >file
 }
 for message in "ESI 1 22" "SUO 10 19" "VAR 13 22"; do
-    # shellcheck disable=SC2086
-    set -- $message
-    kind=$1 line=$2 fields=$3
-    case $kind in ESI) about="ESI, line 1" ;; *) about="batch 2, line 13" ;; esac
+    read -r kind line fields <<<"$message"
+    case $kind in ESI) about="ESI, line 1" ;; *) about="batch 2, lines 10 to 13" ;; esac
     head -n "$fields" layout | while read -r name at width; do
         for c in x 9; do
             # a SUO or VAR without its beginning is data
@@ -37,7 +35,7 @@ for message in "ESI 1 22" "SUO 10 19" "VAR 13 22"; do
             damaged "$line" "$at" "$width" $c
             got=0
             receive t file r --explain >out 2>told || got=$?
-            [ $got -le 1 ] && [ ! -s told ] || fail "$kind, $name: status $got"
+            { [ $got -le 1 ] && [ ! -s told ]; } || fail "$kind, $name: status $got"
             contents=$(printf "%${width}s" '' | tr ' ' $c)
             # which field, and so whether it is a fault of format or of value, is the notice's; a field that may hold it has another fault or none
             LC_ALL=C tr '\n' ' ' <r | LC_ALL=C grep -q "[E]10[1][01]" || [ $c = 9 ] || fail "$kind, $name: a field of x was taken"
@@ -45,7 +43,7 @@ for message in "ESI 1 22" "SUO 10 19" "VAR 13 22"; do
             [ -n "$code" ] || continue
             case "$kind $name" in
             "ESI SANOMATUNNUS") text="the file doesn't begin with an ESI but with \"$contents\"" ;;
-            *) text="field $name of the $kind, \"$contents\"" ;;
+            *) text="field $name of the $kind in line $line, \"$contents\"" ;;
             esac
             grep -E "^$code  $about, byte [0-9]+: " out | grep -qF -- "$text" || fail "$kind, $name, $c: expected '$code  $about … $text'"
             # explain tells the same field by the notice
@@ -55,7 +53,7 @@ for message in "ESI 1 22" "SUO 10 19" "VAR 13 22"; do
         done
     done
 done
-[ "$(grep -c 1010 seen)" -ge 55 ] && [ "$(grep -c 1011 seen)" -ge 10 ] || fail "too few faults: $(grep -c 1010 seen) of format, $(grep -c 1011 seen) of value"
+{ [ "$(grep -c 1010 seen)" -ge 55 ] && [ "$(grep -c 1011 seen)" -ge 10 ]; } || fail "too few faults: $(grep -c 1010 seen) of format, $(grep -c 1011 seen) of value"
 
 # what differs between SUO and VAR, keys, stamps
 explained() { # TEXT FILE
@@ -65,8 +63,8 @@ explained() { # TEXT FILE
     grep -qF -- "$1" out || fail "expected '$1'"
 }
 damaged 13 60 17 1
-explained 'E 1026  batch 2, line 13' file
-explained 'field LÄHETTÄJÄ: "99910000011111111        " in the SUO, "11111111111111111        " in the VAR' file
+explained 'E 1026  batch 2, lines 10 to 13' file
+explained 'field LÄHETTÄJÄ: "99910000011111111        " in the SUO in line 10, "11111111111111111        " in the VAR in line 13' file
 sed '1s/^\(.\{85\}\)00/\105/' "$root/samples/good.txt" >file
 explained 'names working key 5; held: 0' file
 sed '1s/^\(.\{85\}\)0/\14/' "$root/samples/good.txt" >file
@@ -81,4 +79,111 @@ receive t "$root/samples/good.txt" r >out
 receive t "$root/samples/good.txt" r2 --explain >out 2>told || [ $? -eq 1 ]
 grep -qF 'E 1018  ESI, line 1, byte 163: the time stamp was used before: it is held already. Customer "99910000011111111" qualifier "", stamp 941017 073000 001' out || fail "expected the stamp"
 explained "E 1010  ESI, line 1" "$root/samples/outside.txt"
+
+# ---- what was given, and what the bank has
+ID=99910000011111111 C=0000000000000001
+on() { # TEXT TABLE DATE TYPE FILE
+    rm -f r
+    lentilpot receive "$2" "$3" 091500 "$4" $C "$5" r --explain >out 2>told || [ $? -eq 1 ]
+    grep -qF -- "$1" out || fail "expected '$1'"
+}
+new_bank() { # TABLE BANK QUALIFIER FLOOR TYPES
+    rm -f "$1"
+    lentilpot setup "$1" "$2" "$3" "FRONT 4" "$4" 0123456789ABCDEF 0000000000000007 >made &&
+        lentilpot add "$1" 941014 $ID "" F18C57209492FEB3 C71A7502021A022F 028E4C 0 "$5" yes yes >>made
+}
+new_bank t 003701234567 "" 120 1
+sed '1s/^\(>>ESI161\)120/\1110/' "$root/samples/good.txt" >file
+on "the version is below the bank's floor: it is 110, the floor is 120. Customer \"$ID\"" t 941017 1 file
+new_bank t 003701234568 X 110 1
+on 'the receiver isn'"'"'t this bank: it is "003701234567" qualifier "", the bank is "003701234568" qualifier "X". Customer' t 941017 1 "$root/samples/good.txt"
+new_bank t 003701234567 "" 110 1,3,16
+on "this data type isn't allowed to the customer: received as type 2, allowed: 1,3,16. Customer" t 941017 2 "$root/samples/good.txt"
+new_bank t 003701234567 "" 110 -
+on "this data type isn't allowed to the customer: received as type 2, allowed: none. Customer" t 941017 2 "$root/samples/good.txt"
+# which key is enclosed: a new one; the current one, where the previous was used
+new_bank t 003701234567 "" 110 3
+cp t first
+on 'accepted; a new working key is enclosed: generation 1. Customer' t 941015 3 "$root/samples/payments.txt"
+grep -qF 'K 1003  batch 3, lines 11 to 13, byte ' out || fail "expected the batch that asked for a key"
+{ grep -qF "E 1023  outside, line 10, byte " out && grep -F 'E 1023' out | grep -qF "The file's ESI is of customer \"$ID\" qualifier \"\""; } || fail "expected whose file it is"
+cp first t
+lentilpot order t 941015 $ID "" $C >made
+on 'K 1003  batch 3, lines 11 to 13, byte ' t 941015 3 "$root/samples/payments.txt"
+grep -qF 'accepted; the current working key is enclosed, since the previous one was used: generation 1. Customer' out || fail "expected the current key"
+grep -qF 'accepted; the previous working key was used, the current one is enclosed: generation 1. Customer' out || fail "expected the current key beside 1002"
+
+# ---- lines
+# the file's end settles a reply in the line of its last byte, with an LF after it or without
+head -n 4 "$root/samples/good.txt" >file
+explained 'E 1024  batch 1, lines 2 to 4, byte ' file
+printf 'no LF' >>file
+explained 'E 1024  batch 1, lines 2 to 5, byte ' file
+head -n 2 "$root/samples/payments.txt" >file
+explained 'E 1024  batch 1, line 2, byte ' file
+head -n 1 "$root/samples/good.txt" | head -c 80 >file
+explained 'E 1032  ESI, line 1, byte 80: a message is cut short: the ESI that begins in line 1' file
+head -n 2 "$root/samples/good.txt" >file
+explained "E 1032  batch 1, line 2, byte 245: a message is cut short: the SUO that begins in line 2. The file's ESI is of customer" file
+# a SUO ends the batch before it, which began where its own SUO did; the next batch begins there
+{ head -n 3 "$root/samples/good.txt"; tail -n +2 "$root/samples/good.txt"; } >file
+explained 'E 1024  batch 1, lines 2 to 4, byte ' file
+grep -qE '^[KE] [0-9]*  batch 2, lines 4 to 11, byte ' out || fail "expected the lines of the batch after it"
+# messages in records of 80 characters: a fault is told where its message begins
+damaged 8 22 1 x
+explained 'E 1010  batch 1, lines 2 to 9, byte ' file
+explained 'field SUOJAUSALUE of the VAR in line 7, "x"' file
+damaged 3 22 1 x
+explained 'field SUOJAUSALUE of the SUO in line 2, "x"' file
+# however the file is read
+for file in "$root/samples/payments.txt" "$root/samples/damaged.txt" "$root/samples/batches.txt" file; do
+    cp base t
+    rm -f r
+    receive t "$file" r --explain >whole 2>told || [ $? -eq 1 ]
+    for size in 1 2 7 160 161 162 163; do
+        [ $size -gt 100 ] || [ "$(wc -c <"$file")" -lt 4000 ] || continue
+        cp base t
+        rm -f r
+        receive t "$file" r $size --explain >out 2>told || [ $? -eq 1 ]
+        cmp -s whole out || { diff whole out >&2; fail "$file: reads of $size bytes are explained otherwise"; }
+    done
+done
+
+# ---- a message that isn't well formed names nobody: its fields may stand elsewhere
+sed '1s/^\(.\{16\}\)/\1 /' "$root/samples/good.txt" >file
+explained 'E 1010  ESI, line 1' file
+! grep -qE 'Customer|stamp|qualifier' out || fail "a message with a character too many names a customer"
+sed '1s/^\(.\{70\}\)/\1 /' "$root/samples/good.txt" >file
+explained 'E 101' file
+! grep -qE 'Customer|stamp|qualifier' out || fail "a message with a character too many names a customer"
+damaged 10 102 1 x
+explained "The file's ESI is of customer \"$ID\" qualifier \"\"" file
+! grep -F 'E 1010' out | grep -qE '[.] Customer|stamp' || fail "a message that isn't well formed names a customer"
+
+# ---- explain: what to tell the caller, in the words of README.md
+reply_of() { # CODE: the first reply with that code, alone
+    LC_ALL=C grep -a "^.\{12\}$1" r | head -n 1 >one
+    lentilpot explain one >out 2>told || [ $? -eq 1 ]
+    tr -s ' \n' ' ' <out >joined
+}
+says() { grep -qF -- "$1" joined || fail "explain: expected '$1'"; }
+sed '1s/^\(.\{85\}\)00/\105/' "$root/samples/good.txt" >file
+explained 'E 1014' file
+reply_of 1014
+says "make the file anew with the current key (the previous one is good for stamps from the new one's first day to the changeover's last, and for none before)"
+sed '1s/^\(.\{85\}\)0/\14/' "$root/samples/good.txt" >file
+explained 'E 1013' file
+reply_of 1013
+says "make the file anew with the current key"
+for code in 1037 1034; do
+    LC_ALL=C sed "s/^\(.\{12\}\)1013/\1$code/" r >r2
+    mv r2 r
+    reply_of $code
+    case $code in
+    1037) says "no changeover was ended: none runs, or the message itself used the previous key: use the current key" ;;
+    *) says "64 live stamps are held, one for each accepted message: send again when stamps have become too old (on the sixth banking day after them), and put more payments into a batch" ;;
+    esac
+    LC_ALL=C sed "s/^\(.\{12\}\)$code/\11013/" r >r2
+    mv r2 r
+done
 echo "explain: $(wc -l <seen) fields at fault shown with their contents"

@@ -45,7 +45,7 @@ mended() {
     esac
 }
 state_of() { # TABLE
-    lentilpot show "$1" >shown 2>&1 && grep -q '^day ' shown || fail "$1 isn't whole"
+    { lentilpot show "$1" >shown 2>&1 && grep -q '^day ' shown; } || fail "$1 isn't whole"
     if cmp -s "$1" new; then state=new; elif cmp -s "$1" old; then state=old; else fail "$1 is neither the old nor the new one"; fi
     # nothing is said that a crash could take back
     [ ! -s "$1.listing" ] || [ $state = new ] || fail "replies were listed and $1 is the old one"
@@ -75,18 +75,18 @@ while [ $i -lt "$moments" ]; do
     # whatever is left is told by the next run on each table, at most twice: its lock, and replies that had just begun
     for t in a/t b/t; do
         turns=0
-        while [ -e $t.lock ] || { [ $t = b/t ] && [ -e a/r.run ]; }; do
+        while [ -e "$t.lock" ] || { [ "$t" = b/t ] && [ -e a/r.run ]; }; do
             turns=$((turns + 1))
             [ $turns -le 4 ] || fail "mends don't end"
-            cp $t t.before
+            cp "$t" t.before
             got=0
-            if [ -e $t.lock ]; then
+            if [ -e "$t.lock" ]; then
                 locks=$((locks + 1))
-                lentilpot order $t 941017 99910000011111111 "" 0000000000000001 >out 2>told || got=$?
+                lentilpot order "$t" 941017 99910000011111111 "" 0000000000000001 >out 2>told || got=$?
             else
-                receive $t "$root/samples/good.txt" a/r >out 2>told || got=$?
+                receive "$t" "$root/samples/good.txt" a/r >out 2>told || got=$?
             fi
-            [ $got -eq 2 ] && [ ! -s out ] && cmp -s $t t.before || fail "a run went on over what was left"
+            { [ $got -eq 2 ] && [ ! -s out ] && cmp -s "$t" t.before; } || fail "a run went on over what was left"
             mended
         done
     done
@@ -104,13 +104,13 @@ while [ $i -lt "$moments" ]; do
         timed receive $t "$root/samples/batches.txt" c/again 64 >again || got=$?
         rm c/again
         if [ $state = new ]; then
-            [ $got -eq 1 ] && [ "$(cat again)" = "E 1018" ] || fail "a stamp was accepted twice"
+            { [ $got -eq 1 ] && [ "$(cat again)" = "E 1018" ]; } || fail "a stamp was accepted twice"
         else
-            [ $got -eq 0 ] && cmp -s again whole.listing || fail "the file isn't accepted after a run that changed nothing"
+            { [ $got -eq 0 ] && cmp -s again whole.listing; } || fail "the file isn't accepted after a run that changed nothing"
             cmp -s $t new || fail "the table differs from that of a run that was not cut off"
         fi
     done
 done
-[ $olds -gt 0 ] && [ $news -gt 0 ] || fail "every moment gave the same table: $olds old, $news new"
+{ [ $olds -gt 0 ] && [ $news -gt 0 ]; } || fail "every moment gave the same table: $olds old, $news new"
 echo "kill: $((2 * moments)) kills on two tables in two folders: $olds with the old table, $news with the new one and its replies; no stamp accepted twice"
 echo "kill: $locks locks left, $others runs told of another's replies; by the command told were mended $unchanged that had not changed the table, $standing that had saved it, $finished that had named the replies too, $begun that had just begun"

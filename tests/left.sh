@@ -22,14 +22,14 @@ tell() { # TEXT TABLE
     got=0
     receive t "$file" r >out 2>told || got=$?
     [ $got -eq 2 ] || fail "status $got, expected 2"
-    [ "$(wc -l <told)" -eq 1 ] && grep -qF -- "$1" told || fail "expected one line with '$1'"
+    { [ "$(wc -l <told)" -eq 1 ] && grep -qF -- "$1" told; } || fail "expected one line with '$1'"
     [ ! -s out ] || fail "something was listed"
     cmp -s t "$2" || fail "the table changed"
     command=$(sed -n 's/.*To mend: //p' told)
     [ -n "$command" ] || fail "no mend is told"
     (cd / && eval "$command") || fail "the mend failed"
 }
-clean() { [ ! -e t.lock ] && [ ! -e t.new ] && [ ! -e r.new ] && [ ! -e r.run ] || fail "something is still left over"; }
+clean() { { [ ! -e t.lock ] && [ ! -e t.new ] && [ ! -e r.new ] && [ ! -e r.run ]; } || fail "something is still left over"; }
 
 state="a lock alone"
 cp old t
@@ -59,8 +59,8 @@ cp r.run r.run.before
 lock "$work/r
 "
 tell "did not change the table" old
-[ ! -e t.lock ] && [ ! -e t.new ] || fail "something is still left over"
-[ -e r.new ] && cmp -s r.run r.run.before || fail "the mend broke the other run's replies"
+{ [ ! -e t.lock ] && [ ! -e t.new ]; } || fail "something is still left over"
+{ [ -e r.new ] && cmp -s r.run r.run.before; } || fail "the mend broke the other run's replies"
 state="replies under way whose table has no lock any more"
 tell "its lock was removed, so whether that table was saved can't be told" old
 clean
@@ -97,7 +97,7 @@ lock "$work/r
 "
 tell "another file has their name by now" new
 clean
-cmp -s r.AAAAAAAAAAAAAAAA whole && [ "$(cat r)" = other ] || fail "the replies or the other file are lost"
+{ cmp -s r.AAAAAAAAAAAAAAAA whole && [ "$(cat r)" = other ]; } || fail "the replies or the other file are lost"
 state="the same two, found by a run on another table"
 rm r r.AAAAAAAAAAAAAAAA
 cp whole r.new
@@ -107,7 +107,7 @@ lock "$work/r
 cp old second
 got=0
 receive second "$file" r >out 2>told || got=$?
-[ $got -eq 2 ] && grep -qF "a run on the table '$work/t', runs no more and saved the table; its replies stand" told || fail "expected to be told whose they are"
+{ [ $got -eq 2 ] && grep -qF "a run on the table '$work/t', runs no more and saved the table; its replies stand" told; } || fail "expected to be told whose they are"
 cmp -s second old || fail "the other table changed"
 command=$(sed -n 's/.*To mend: //p' told)
 (cd / && eval "$command") || fail "the mend failed"
@@ -150,7 +150,7 @@ cp new t
 mv elsewhere r
 state="lock gone, table saved, listing cut off"
 receive new "$file" r >out 2>told && fail "the replies were replaced"
-cmp -s r whole && grep -qF "replies never replace one" told || fail "the replies are lost"
+{ cmp -s r whole && grep -qF "replies never replace one" told; } || fail "the replies are lost"
 lentilpot explain r >out 2>told || fail "the replies can't be shown"
 grep -q "^accepted 3, refused 0" out || fail "the replies are shown otherwise"
 state="a new table without a lock"
@@ -179,7 +179,7 @@ clean
 state="another program's lock"
 echo 1 >t.lock
 receive t "$file" r >out 2>told && fail "a lock was overrun"
-grep -qF "a lock that this program did not write" told && [ ! -s out ] && cmp -s t old || fail "expected to be told of the lock"
+{ grep -qF "a lock that this program did not write" told && [ ! -s out ] && cmp -s t old; } || fail "expected to be told of the lock"
 rm -f t.lock
 # Ctrl-C and TERM leave what a kill leaves. A shell has its background jobs ignore INT, and so may whoever started this one.
 env --default-signal=INT true 2>/dev/null && heeding="env --default-signal=INT" || heeding=
@@ -199,11 +199,38 @@ for signal in INT TERM; do
     kill -s KILL $run 2>/dev/null && fail "the run goes on"
     wait $run 2>/dev/null || true
     exec 9>&-
-    [ -e t.lock ] && [ -e t.new ] && [ -e r.new ] || fail "expected what a kill leaves"
+    { [ -e t.lock ] && [ -e t.new ] && [ -e r.new ]; } || fail "expected what a kill leaves"
     tell "did not change the table" old
     clean
 done
+# Giving up takes back what was made, each step on the disk before the next: the replies may be on another disk than the table, and a lock that names them
+# without a new table says that the table was saved.
+state="given up"
+if [ "$(uname -m)" = x86_64 ] && command -v strace >/dev/null 2>&1 && strace -o /dev/null true 2>/dev/null; then
+    mkdir bank out2
+    cp old bank/t
+    # a folder can be opened and not read
+    strace -y -o trace -e 'trace=/^(open|openat|fsync|ftruncate|unlink|unlinkat|rename|renameat|renameat2)$' "$program" receive bank/t 941017 091500 1 \
+        0000000000000001 . out2/r >out 2>told && fail "a folder was received"
+    grep -qF "Is a directory" told || fail "expected to be told that the file can't be read"
+    sed -n "s|$work/||g
+        s/^unlink.*\"\(.*\)\".*= 0/remove \1/p
+        s/^ftruncate([0-9]*<\([^>]*\)>.*/cut \1/p
+        s/^fsync([0-9]*<\([^>]*\)>.*/flush \1/p" trace | sed -n '/^remove out2/,$p' >steps
+    cat >expected <<'END'
+remove out2/r.new
+flush out2
+remove out2/r.run
+flush out2
+cut bank/t.lock
+flush bank/t.lock
+remove bank/t.new
+remove bank/t.lock
+END
+    diff expected steps >&2 || fail "the steps of giving up (>) aren't the right ones (<)"
+    { cmp -s bank/t old && [ "$(find bank out2 | LC_ALL=C sort | tr '\n' ' ')" = "bank bank/t out2 " ]; } || fail "something is left"
+fi
 state="mended"
 receive t "$file" r >out 2>told || fail "the file isn't accepted after the mends"
-cmp -s out listing && cmp -s t new || fail "the file isn't accepted after the mends"
+{ cmp -s out listing && cmp -s t new; } || fail "the file isn't accepted after the mends"
 echo "left: what a run that was cut off can leave is told in one line and mended by what is told, from any folder"

@@ -26,7 +26,7 @@ told() { # TEXT WORDS..
     got=0
     timeout 20 sh "$root/scripts/runbin" "$program" "$@" >out 2>told </dev/null || got=$?
     [ $got -eq 2 ] || fail "lentilpot $*: status $got, expected 2"
-    [ "$(wc -l <told)" -eq 1 ] && grep -qF -- "$text" told || fail "lentilpot $*: expected one line with '$text'"
+    { [ "$(wc -l <told)" -eq 1 ] && grep -qF -- "$text" told; } || fail "lentilpot $*: expected one line with '$text'"
     [ ! -s out ] || fail "lentilpot $*: something was listed"
     state >after
     cmp -s before after || { diff before after >&2; fail "lentilpot $*: something changed"; }
@@ -83,7 +83,7 @@ mkdir r.run
 files "r.run: there is a file already, which this program did not write" t good r
 rmdir r.run
 files "can't make the replies" t good none/r
-[ ! -e t.lock ] && [ ! -e t.new ] || fail "a lock was left"
+{ [ ! -e t.lock ] && [ ! -e t.new ]; } || fail "a lock was left"
 
 # ---- replies under way of another run
 mkdir a b
@@ -101,7 +101,7 @@ files "the table is in use by process" b/t good other.replies
 cat good >&9
 exec 9>&-
 wait $run || fail "the run that lived did not end well"
-grep -q '^K' b/listing && [ ! -e r.new ] && [ ! -e r.run ] && [ ! -e b/t.lock ] || fail "the run that lived left something over"
+{ grep -q '^K' b/listing && [ ! -e r.new ] && [ ! -e r.run ] && [ ! -e b/t.lock ]; } || fail "the run that lived left something over"
 [ -s r ] || fail "the replies of the run that lived are lost"
 
 # the same, but it is killed: the mend is that of its own table, whichever table is asked for
@@ -118,7 +118,7 @@ exec 9>&-
 files "a run on the table '$work/b/t', runs no more and did not change the table" a/t good r
 command=$(sed -n 's/.*To mend: //p' told)
 (cd / && eval "$command") || fail "the mend failed"
-[ ! -e r.new ] && [ ! -e r.run ] && [ ! -e b/t.lock ] && [ ! -e b/t.new ] || fail "the mend left something over"
+{ [ ! -e r.new ] && [ ! -e r.run ] && [ ! -e b/t.lock ] && [ ! -e b/t.new ]; } || fail "the mend left something over"
 cmp -s b/t old || fail "the other table changed"
 receive a/t good r >out 2>told || fail "the name of the replies can't be used after the mend"
 rm r
@@ -130,7 +130,7 @@ meddled() { # WHAT TEXT
     cp old m/t
     mkfifo m/file
     exec 9<>m/file
-    (umask 000 && receive m/t m/file m/r >m/listing 2>m/told) 9>&- &
+    (umask 000 && receive m/t m/file m/r >listing 2>said) 9>&- &
     run=$!
     turns=0
     while [ ! -e m/r.new ] && [ $turns -lt 200 ]; do turns=$((turns + 1)); sleep 0.05; done
@@ -140,31 +140,34 @@ meddled() { # WHAT TEXT
     exec 9>&-
     got=0
     wait $run || got=$?
-    cp m/told told
-    cp m/listing out
-    [ $got -eq 2 ] && [ ! -s m/listing ] || fail "$1: status $got, expected 2 and no listing"
-    [ "$(wc -l <m/told)" -eq 1 ] && grep -qF -- "$2" m/told || fail "$1: expected one line with '$2'"
+    cp said told
+    cp listing out
+    { [ $got -eq 2 ] && [ ! -s listing ]; } || fail "$1: status $got, expected 2 and no listing"
+    { [ "$(wc -l <said)" -eq 1 ] && grep -qF -- "$2" said; } || fail "$1: expected one line with '$2'"
     [ ! -e m/r ] || [ "$(cat m/r)" = other ] || fail "$1: there are replies"
     count=$((count + 1))
 }
-meddled 'rm m/t.lock' "nothing was changed: the lock was removed while the run was under way"
-cmp -s m/t old && [ ! -e m/t.new ] && [ ! -e m/r.new ] && [ ! -e m/r.run ] || fail "something changed or is left"
-meddled 'echo other >m/t.lock' "nothing was changed: the lock was removed while the run was under way"
-cmp -s m/t old && [ "$(cat m/t.lock)" = other ] || fail "another's lock was removed"
+meddled 'rm m/t.lock' "nothing was changed: the lock was removed, or its folder moved, while the run was under way"
+{ cmp -s m/t old && [ ! -e m/t.new ] && [ ! -e m/r.new ] && [ ! -e m/r.run ]; } || fail "something changed or is left"
+meddled 'echo other >m/t.lock' "nothing was changed: the lock was removed, or its folder moved, while the run was under way"
+{ cmp -s m/t old && [ "$(cat m/t.lock)" = other ]; } || fail "another's lock was removed"
 meddled 'rm m/t.new; echo other >m/t.new' "nothing was changed: another file took the table's name, or that of the new one"
-cmp -s m/t old && [ "$(cat m/t.new)" = other ] || fail "another's file took the table's name"
+{ cmp -s m/t old && [ "$(cat m/t.new)" = other ]; } || fail "another's file took the table's name"
 meddled 'mv m/t m/t2; cp old m/t' "nothing was changed: another file took the table's name, or that of the new one"
-cmp -s m/t old && cmp -s m/t2 old || fail "a table that was put in place was replaced"
+{ cmp -s m/t old && cmp -s m/t2 old; } || fail "a table that was put in place was replaced"
 meddled 'rm m/r.new; echo other >m/r.new' "nothing was changed: another file took the name of the replies"
-cmp -s m/t old && [ "$(cat m/r.new)" = other ] || fail "another's file was taken for the replies"
+{ cmp -s m/t old && [ "$(cat m/r.new)" = other ]; } || fail "another's file was taken for the replies"
+# a folder that is moved away: told in one line, and nothing is left in it
+meddled 'rm -rf away; mv m away; mkdir m' "nothing was changed: "
+{ cmp -s away/t old && [ "$(cd away && find . -type f) $(find away | wc -l)" = "./t 3" ]; } || fail "something is left in the folder that was moved"
 meddled 'echo other >m/r' "holds the replies, which could not be given their name; the table was saved, and another file has their name by now"
 [ "$(cat m/r)" = other ] || fail "the replies replaced a file"
 command=$(sed -n 's/.*To mend: //p' told)
 (cd / && eval "$command") || fail "the mend failed"
-[ ! -e m/r.new ] && [ ! -e m/r.run ] && [ -n "$(find m -name 'r.????????????????')" ] || fail "the mend lost the replies"
+{ [ ! -e m/r.new ] && [ ! -e m/r.run ] && [ -n "$(find m -name 'r.????????????????')" ]; } || fail "the mend lost the replies"
 
 # ---- names that a shell would read otherwise; a mend is right from any folder
-for name in "it's" "-n" "-h" 'a b' '$(touch x)' '"; touch x; "' '*' '--' "back\\slash" 'ä'; do
+for name in "it's" "-n" "-h" 'a b' "\$(touch x)" '"; touch x; "' '*' '--' "back\\slash" 'ä'; do
     mkdir -p "./odd/$name"
     (
         cd "./odd/$name"
@@ -180,16 +183,44 @@ for name in "it's" "-n" "-h" 'a b' '$(touch x)' '"; touch x; "' '*' '--' "back\\
         rm run lock
         got=0
         lentilpot receive -- "$name" 941017 091500 1 0000000000000001 "$name.file" "$name.r" >"$work/out" 2>"$work/told" || got=$?
-        [ $got -eq 2 ] && [ "$(wc -l <"$work/told")" -eq 1 ] || fail "'$name': expected status 2 and one line"
+        { [ $got -eq 2 ] && [ "$(wc -l <"$work/told")" -eq 1 ]; } || fail "'$name': expected status 2 and one line"
         command=$(sed -n 's/.*did not change the table. To mend: //p' "$work/told")
         [ -n "$command" ] || fail "'$name': no mend is told"
         (cd / && eval "$command") || fail "'$name': the mend failed"
-        [ "$(ls -A | wc -l)" -eq 2 ] || { ls -A >&2; fail "'$name': the mend left or removed something"; }
+        [ "$(find . -mindepth 1 | wc -l)" -eq 2 ] || { ls -A >&2; fail "'$name': the mend left or removed something"; }
         lentilpot receive -- "$name" 941017 091500 1 0000000000000001 "$name.file" "$name.r" >"$work/out" 2>"$work/told" || fail "'$name': the file isn't accepted"
     )
     count=$((count + 1))
 done
-[ -z "$(find . -name x)" ] && [ -z "$(find / -maxdepth 1 -name x -newer made 2>/dev/null)" ] || fail "a name was run as a command"
+{ [ -z "$(find . -name x)" ] && [ -z "$(find / -maxdepth 1 -name x -newer made 2>/dev/null)" ]; } || fail "a name was run as a command"
+# ---- names so long that those beside them would not fit a folder
+long=$(printf '%0255d' 0)
+files "REPLIES: expected the name of a file, of at most 238 bytes past its folder" t good "${long:0:239}"
+files "REPLIES: expected the name of a file, of at most 238 bytes past its folder" t good "./$long"
+files "TABLE: expected the name of a file, of at most 244 bytes past its folder" "${long:0:245}" good r
+told "TABLE: expected the name of a file, of at most 244 bytes past its folder" setup "${long:0:245}" BANK "" SOFT 110 0123456789ABCDEF 0123456789ABCDEF
+told "TABLE: expected the name of a file, of at most 244 bytes past its folder" order "$long" 941017 99910000011111111 "" 0000000000000001
+# the longest: another file takes the name meanwhile, and the mend can be typed
+mkdir longest
+cp old "longest/${long:0:244}"
+mkfifo longest/file
+exec 9<>longest/file
+receive "longest/${long:0:244}" longest/file "longest/${long:0:238}" >out 2>told 9>&- &
+run=$!
+turns=0
+while [ ! -e "longest/${long:0:238}.new" ] && [ $turns -lt 200 ]; do turns=$((turns + 1)); sleep 0.05; done
+echo other >"longest/${long:0:238}"
+cat good >&9
+exec 9>&-
+got=0
+wait $run || got=$?
+{ [ $got -eq 2 ] && grep -qF "and another file has their name by now" told; } || fail "the longest names: status $got"
+command=$(sed -n 's/.*To mend: //p' told)
+(cd / && eval "$command") || fail "the mend of the longest name failed"
+{ [ "$(find longest -type f | wc -l)" -eq 3 ] && [ -n "$(find longest -name '*.????????????????')" ]; } || fail "the mend of the longest name lost the replies"
+rm -r longest
+count=$((count + 1))
+
 newline='a
 b'
 told "TABLE: expected the name of a file, without control characters" show "$newline"

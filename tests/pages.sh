@@ -9,7 +9,7 @@ program=${PROGRAM:-$root/target/program/lentilpot}
 work=$(mktemp -d)
 trap 'rm -rf "$work"' EXIT
 cd "$work"
-help=$root/crates/terminal/src/help.rt
+help=$root/crates/cli_terminal/src/help.rt
 page=$root/docs/lentilpot.1
 fail() {
     echo "tests/pages: $*" >&2
@@ -19,7 +19,7 @@ fail() {
 # ---- what is made
 
 sh "$root/scripts/pages" made
-for file in crates/terminal/src/help.rt docs/lentilpot.1 docs/lentilpot.bash; do
+for file in crates/cli_terminal/src/help.rt docs/lentilpot.1 docs/lentilpot.bash; do
     cmp -s "made/$file" "$root/$file" || {
         diff "$root/$file" "made/$file" >&2 || true
         fail "$file isn't what scripts/pages makes from docs/commands: run 'sh scripts/pages'"
@@ -39,7 +39,7 @@ refused() { # TEXT SED
     cmp -s other/docs/commands "$root/docs/commands" && fail "the edit '$2' changes nothing"
     if sh other/scripts/pages >out 2>err; then fail "scripts/pages took a list after '$2'"; fi
     grep -qF -- "$1" err || { cat err >&2; fail "scripts/pages after '$2': expected to be told '$1'"; }
-    [ ! -e other/docs/lentilpot.1 ] && [ ! -e other/crates ] || fail "scripts/pages made something after '$2'"
+    { [ ! -e other/docs/lentilpot.1 ] && [ ! -e other/crates ]; } || fail "scripts/pages made something after '$2'"
 }
 refused "the list has no word TABEL" 's/^command show TABLE/command show TABEL/'
 refused "word READ: no command has it" 's/^\(command receive.*\) \[READ\]/\1/'
@@ -67,20 +67,40 @@ text_of() { # FUNCTION N
 }
 # A text with one blank between its words.
 squeezed() { tr -s ' \n' ' ' <"$1"; }
-text_of whole 1 >whole
+text_of whole 1 >all
 i=0
 while read -r line; do
     i=$((i + 1))
     text_of of $i >"of.$i"
     # Each command with its words: in the whole help, in its own, in the line that says what was expected, on the page and in README.md.
-    squeezed whole | grep -qF -- " $line " || fail "help.rt: the whole help has no '$line'"
+    squeezed all | grep -qF -- " $line " || fail "help.rt: the whole help has no '$line'"
     squeezed "of.$i" | grep -qF -- "usage: lentilpot $line " || fail "help.rt: the help of command $i doesn't begin with '$line'"
     [ "$(text_of tell_words $i)" = "$line" ] || fail "help.rt: tell_words $i isn't '$line'"
     sed 's/\\f.//g; s/\\-/-/g' "$page" | grep -qxF -- "$line" || fail "docs/lentilpot.1 has no '$line'"
     squeezed "$root/README.md" | grep -qF -- " lentilpot $line " || fail "README.md has no 'lentilpot $line'"
 done <commands
-[ "$(wc -l <whole)" -le 60 ] || fail "the whole help has more than 60 lines"
-[ -z "$(awk 'length > 110' whole)" ] || fail "a line of the whole help is longer than 110"
+# What a person would otherwise find out too late: in the help of the command and on the page.
+sed 's/\\f.//g; s/\\-/-/g; s/\\(aq/'"'"'/g; s/\\&//g; s/\\ / /g' "$page" | tr -s ' \n' ' ' >joined
+told_in() { # NAME TEXT
+    i=$(printf '%s\n' "$names" | grep -nx "$1" | sed 's/:.*//')
+    squeezed "of.$i" | grep -qF -- "$2" || fail "the help of $1 doesn't say '$2'"
+    grep -qF -- "$2" joined || fail "docs/lentilpot.1 doesn't say '$2'"
+}
+told_in receive "Where the file begins with an ESI the first is about it"
+told_in receive "On a terminal the megabytes that were read are shown"
+told_in receive "Write it down beside the command: to run the commands again on a copy of the table takes the same values."
+told_in receive "It is made with the mode that your umask gives."
+told_in receive "What is typed at '-' is seen on the screen, unless 'stty -echo' comes before and 'stty echo' after."
+told_in setup "What is typed at '-' is seen on the screen"
+told_in show "'(past)' after a changeover: its last day is before the table's day"
+told_in show "'n of 64 held': so many stamps are not too old on the table's day"
+told_in key "and for none before DATE (E 1013)"
+told_in order "and for none before DATE (E 1014)"
+for text in "standard output is empty, unless a listing broke off in it" "install target/program/lentilpot /usr/local/bin"; do
+    grep -qF -- "$text" joined || fail "docs/lentilpot.1 doesn't say '$text'"
+done
+[ "$(wc -l <all)" -le 60 ] || fail "the whole help has more than 60 lines"
+[ -z "$(awk 'length > 110' all)" ] || fail "a line of the whole help is longer than 110"
 
 # ---- the man page
 
@@ -117,7 +137,7 @@ completes() { # EXPECTED WORDS..
     [ "$got" = "$expected " ] || fail "completion of '$*': expected '$expected', got '$got'"
 }
 completes receive lentilpot r
-completes "$(printf '%s\n' $names | LC_ALL=C sort | tr '\n' ' ' | sed 's/ $//')" lentilpot ""
+completes "$(echo "$names" | LC_ALL=C sort | tr '\n' ' ' | sed 's/ $//')" lentilpot ""
 completes "--help --version -h" lentilpot -
 completes "--explain --help --later" lentilpot receive --
 completes "--help --later" lentilpot add t 941017 --
@@ -153,25 +173,25 @@ prints() { # FILE WORDS..
     shift
     status=0
     lentilpot "$@" >out 2>err </dev/null || status=$?
-    [ $status -eq 0 ] && [ ! -s err ] && cmp -s "$file" out || {
+    { [ $status -eq 0 ] && [ ! -s err ] && cmp -s "$file" out; } || {
         diff "$file" out >&2 || true
         cat err >&2
         fail "lentilpot $*: expected what help.rt holds, and status 0 (it was $status)"
     }
 }
-prints whole help
-prints whole --help
-prints whole -h
+prints all help
+prints all --help
+prints all -h
 i=0
 for name in $names; do
     i=$((i + 1))
     prints "of.$i" "$name" --help
     prints "of.$i" help "$name"
 done
-text_of version 1 >version
-[ "$(cat version)" = "lentilpot $(sed -n 's/^version //p' "$root/docs/commands")" ] || fail "help.rt: version isn't that of docs/commands"
-prints version --version
+text_of version 1 >number
+[ "$(cat number)" = "lentilpot $(sed -n 's/^version //p' "$root/docs/commands")" ] || fail "help.rt: version isn't that of docs/commands"
+prints number --version
 # The library's version is the program's, where it tells one.
 library=$(sed -n 's/^#define LP_VERSION  *"\{0,1\}\([0-9][0-9.]*\)"\{0,1\}.*/\1/p' "$root/include/lentilpot.h")
-[ -z "$library" ] || [ "lentilpot $library" = "$(cat version)" ] || fail "include/lentilpot.h: LP_VERSION is $library, and the program says '$(cat version)'"
+[ -z "$library" ] || [ "lentilpot $library" = "$(cat number)" ] || fail "include/lentilpot.h: LP_VERSION is $library, and the program says '$(cat number)'"
 echo "pages: the program prints the help of $count commands as it was made"

@@ -70,7 +70,7 @@ bad "PART1: expected" add t 941017 $ID "" F18C $P2 028E4C 0 1 yes no
 bad "PART2: expected" add t 941017 $ID "" $P1 "" 028E4C 0 1 yes no
 bad "CHECK: expected" add t 941017 $ID "" $P1 $P2 028E4 0 1 yes no
 bad "GENERATION: expected" add t 941017 $ID "" $P1 $P2 028E4C 10 1 yes no
-for types in "" 0 17 1,,3 1, ,1 1-3 01 a -1; do bad "TYPES: expected" add t 941017 $ID "" $P1 $P2 028E4C 0 "$types" yes no; done
+for types in "" 0 17 1,,3 "1," ,1 1-3 01 a -1; do bad "TYPES: expected" add t 941017 $ID "" $P1 $P2 028E4C 0 "$types" yes no; done
 bad "AGREED: expected" add t 941017 $ID "" $P1 $P2 028E4C 0 1 Yes no
 bad "LEAVE: expected" add t 941017 $ID "" $P1 $P2 028E4C 0 1 yes n
 bad "LENGTH: expected" add t 941017 $ID "" $P1 $P2 028E4C 0 1 yes no -1
@@ -109,14 +109,14 @@ fi
 # with a standard stream closed a file of ours could get its number
 for closed in '<&-' '>&-'; do
     eval "lentilpot order t 941017 $ID '' $K $closed 2>err" || true
-    grep -qF "to be open" err && cmp -s t before || { echo "tests/words: a closed standard stream was not refused" >&2; exit 1; }
+    { grep -qF "to be open" err && cmp -s t before; } || { echo "tests/words: a closed standard stream was not refused" >&2; exit 1; }
 done
 # a second run finds the lock; here its owner is this shell, which lives
 printf '%010d AAAAAAAAAAAAAAAA\n' $$ >t.lock
 lentilpot order t 941017 $ID "" $K >out 2>err || true
-grep -qF "in use by process $$" err && [ ! -s out ] && cmp -s t before || { echo "tests/words: a table in use was not refused" >&2; cat err out >&2; exit 1; }
+{ grep -qF "in use by process $$" err && [ ! -s out ] && cmp -s t before; } || { echo "tests/words: a table in use was not refused" >&2; cat err out >&2; exit 1; }
 rm -f t.lock
 # a refused call leaves the table's file as it was
 lentilpot order t 941016 $ID X $K >out || true
-grep -qF "refused 7: " out && cmp -s t before || { echo "tests/words: refused 7 was expected, and the table as it was" >&2; cat out >&2; exit 1; }
+{ grep -qF "refused 7: " out && cmp -s t before; } || { echo "tests/words: refused 7 was expected, and the table as it was" >&2; cat out >&2; exit 1; }
 echo "words: $count bad words and files, each told in one line and nothing changed"
