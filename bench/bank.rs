@@ -1,8 +1,9 @@
 // A bank's table and a customer's file, written here from docs/FORMAT.md and the rules: ESI, then one batch of SUO, data and VAR.
+use crate::plain_des::odd;
 use crate::plain_mac::Mac;
 
 pub const TODAY: u32 = 941024;
-// The keys of samples/make.py: transport key, working key 0, a one-time key.
+// The keys of samples/make.rs: transport key, working key 0, a one-time key.
 const TRANSPORT: u64 = 0x379723239789FD9D;
 const WORKING: u64 = 0xAEBAE983D6406D07;
 pub const ONCE: u64 = 0x5208290ED9BF0B6D;
@@ -11,11 +12,6 @@ const SENDER: &str = "99910000011111111";
 
 fn put(t: &mut [u8], at: usize, width: usize, n: u64) {
     t[at..at + width].copy_from_slice(&n.to_le_bytes()[..width]);
-}
-
-fn odd(x: u64) -> u64 {
-    let bytes = x.to_be_bytes().map(|b| b & 0xfe).map(|b| b | (b.count_ones() as u8 + 1) % 2);
-    u64::from_be_bytes(bytes)
 }
 
 // A table; its first customer is the sender of the files below. The stamps are too old to count, but they are looked at in each check.
@@ -57,7 +53,7 @@ fn customer(r: &mut [u8], c: usize, stamps: usize) {
     }
     r[84] = stamps as u8;
     for i in 0..stamps {
-        put(r, 85 + 8 * i, 8, 941003_081500_000 + i as u64);
+        put(r, 85 + 8 * i, 8, 941003081500000 + i as u64);
         put(r, 597 + 8 * i, 8, odd((c as u64 * 64 + i as u64 + 1).wrapping_mul(0x9e3779b97f4a7c15)));
     }
 }

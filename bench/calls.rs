@@ -1,4 +1,4 @@
-// The calls of include/lentilpot.h that the benchmarks make, and the exports of the crates *_bench.
+// The calls of include/lentilpot.h that the benchmarks make, and the exports of the crates bench_*.
 use crate::bank::TODAY;
 
 extern "C" {

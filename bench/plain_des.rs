@@ -1,5 +1,5 @@
-// A plain DES in Rust, for comparison only: eight tables of 64 entries that join a box and P, IP and its inverse by
-// exchanges of bits, round keys made once. Written from FIPS 46-3, apart from the proved code.
+// A plain DES in Rust, which the benches compare with and the sample files are made with (samples/make.rs): eight tables of 64 entries that
+// join a box and P, IP and its inverse by exchanges of bits, round keys made once. Written from FIPS 46-3, apart from the proved code.
 
 const PC1: [u8; 56] = [
     57, 49, 41, 33, 25, 17, 9, 1, 58, 50, 42, 34, 26, 18, 10, 2, 59, 51, 43, 35, 27, 19, 11, 3, 60, 52, 44, 36, 63, 55,
@@ -83,6 +83,14 @@ pub fn schedule(key: u64) -> [u64; 16] {
         }
     }
     keys
+}
+
+// A key whose bytes have odd parity, by their last bits.
+pub fn odd(key: u64) -> u64 {
+    u64::from_be_bytes(key.to_be_bytes().map(|b| match b.count_ones() % 2 {
+        0 => b ^ 1,
+        _ => b,
+    }))
 }
 
 fn exchange(x: u64, d: u32, m: u64) -> u64 {

@@ -1,5 +1,5 @@
-// The digest of a batch in plain Rust, for comparison only: records end at LF, one CR before it is left out, SKH leaves out the blanks at a
-// record's end, the internal code, DES in a chain over blocks of eight. Written from the rules, apart from the proved code.
+// The digest of a batch in plain Rust, for the benches and the sample files: records end at LF, one CR before it is left out, SKH leaves out
+// the blanks at a record's end, the internal code, DES in a chain over blocks of eight. Written from the rules, apart from the proved code.
 use crate::plain_des::{rounds, schedule, tables, Tables};
 
 pub struct Mac {

@@ -210,8 +210,8 @@ impl Driven<'_> {
         &mut self.sessions[slot]
     }
 
-    /// A register call or an opening: the model answers these exactly.
-    fn register(
+    /// A call that keeps the table or an opening: the model answers these exactly.
+    fn keeping(
         &mut self,
         step: &Step,
         call: impl Fn(&mut dyn Front, &mut [u8], &mut [u8]) -> u32,
@@ -362,7 +362,7 @@ impl Driven<'_> {
         match &step.call {
             Call::SetUp { bank, software, floor, k, v, holidays } => {
                 let before = self.table.clone();
-                self.register(step, |f, t, _| f.set_up(t, bank, software, *floor, *k, *v, holidays))?;
+                self.keeping(step, |f, t, _| f.set_up(t, bank, software, *floor, *k, *v, holidays))?;
                 // A new table knows none of the old one's stamps.
                 if self.table != before {
                     self.accepted.clear();
@@ -370,7 +370,7 @@ impl Driven<'_> {
                 Ok(())
             }
             Call::Add { today, who, part1, part2, check, generation, types, agreed, leave, length_given, length } => {
-                self.register(step, |f, t, _| {
+                self.keeping(step, |f, t, _| {
                     f.add(
                         t,
                         *today,
@@ -388,11 +388,11 @@ impl Driven<'_> {
                 })
             }
             Call::Enter { today, who, part1, part2, check, generation } => {
-                self.register(step, |f, t, _| f.enter(t, *today, who, *part1, *part2, *check, *generation))
+                self.keeping(step, |f, t, _| f.enter(t, *today, who, *part1, *part2, *check, *generation))
             }
-            Call::Order { today, who, clock } => self.register(step, |f, t, _| f.order(t, *today, who, *clock)),
+            Call::Order { today, who, clock } => self.keeping(step, |f, t, _| f.order(t, *today, who, *clock)),
             Call::Open { today, time, data_type, clock, .. } => {
-                self.register(step, |f, t, s| f.open(t, s, *today, *time, *data_type, *clock))
+                self.keeping(step, |f, t, s| f.open(t, s, *today, *time, *data_type, *clock))
             }
             Call::Read { input, room, .. } => self.on_file(step, *room, Some(input), cut),
             Call::End { room, .. } => self.on_file(step, *room, None, cut),

@@ -94,7 +94,7 @@ fn spoil(d: &mut Dice, table: &mut [u8], bank: &Bank) {
     }
 }
 
-/// A case on a table that was spoiled: an opening and a good ESI, the register calls, a set-up.
+/// A case on a table that was spoiled: an opening and a good ESI, the calls that keep the table, a set-up.
 pub fn case(seed: u64) -> Case {
     let d = &mut Dice(seed ^ 0x5B01_1ED0_7AB1_E000);
     let bank = generate_bank(d);

@@ -1,5 +1,9 @@
-//! set_up TABLE: writes the sample bank's table, with the customer whose key document 001 prints in appendix 3.
+//! set_up TABLE: writes the sample bank's table, with the customer whose key document 001 prints in appendix 3. TABLE is the name of a new
+//! file: a table that is there would lose its used stamps.
 use lentilpot::{padded, who, Customer, Settings, Table, TransportKey};
+use std::fs::OpenOptions;
+use std::io::Write;
+use std::os::unix::fs::OpenOptionsExt;
 
 fn main() -> Result<(), Box<dyn std::error::Error>> {
     let name = std::env::args().nth(1).ok_or("usage: set_up TABLE")?;
@@ -23,6 +27,9 @@ fn main() -> Result<(), Box<dyn std::error::Error>> {
             length: None,
         },
     )?;
-    std::fs::write(name, table.as_bytes())?;
+    // For this user alone: it holds keys.
+    let mut file = OpenOptions::new().write(true).create_new(true).mode(0o600).open(&name)?;
+    file.write_all(table.as_bytes())?;
+    file.sync_all()?;
     Ok(())
 }

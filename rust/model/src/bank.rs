@@ -1,4 +1,4 @@
-//! The bank's table as plain values, its bytes, and the register calls.
+//! The bank's table as plain values, its bytes, and the calls that keep the table.
 use crate::calendar::{self, day, is_real_time, more_banking_days, plus, yymmdd};
 use crate::file::File;
 use crate::keys::{check_value, has_odd_parity, make_key, next_generation, transport_key, working_key_0};

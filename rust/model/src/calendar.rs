@@ -8,12 +8,18 @@ pub struct Day(pub u32);
 /// 2079-12-31, beyond which no last day goes.
 pub const LAST: Day = Day(36_524);
 
+// The leap day. Between 1980 and 2079 every fourth year is a leap year: 2000 is one.
+fn leap(year: u32) -> u32 {
+    match year % 4 {
+        0 => 1,
+        _ => 0,
+    }
+}
+
 fn days_in(year: u32, month: u32) -> u32 {
     match month {
         4 | 6 | 9 | 11 => 30,
-        // Between 1980 and 2079 every fourth year is a leap year: 2000 is one.
-        2 if year % 4 == 0 => 29,
-        2 => 28,
+        2 => 28 + leap(year),
         _ => 31,
     }
 }
@@ -21,7 +27,7 @@ fn days_in(year: u32, month: u32) -> u32 {
 /// The day a number yymmdd stands for, if it is real.
 pub fn day(yymmdd: u32) -> Option<Day> {
     let (yy, month, d) = (yymmdd / 10_000, yymmdd / 100 % 100, yymmdd % 100);
-    if yy > 99 || month < 1 || month > 12 {
+    if yy > 99 || !(1..=12).contains(&month) {
         return None;
     }
     let year = if yy >= 80 { 1900 + yy } else { 2000 + yy };
@@ -29,7 +35,7 @@ pub fn day(yymmdd: u32) -> Option<Day> {
         return None;
     }
     let years = year - 1980;
-    let mut n = 365 * years + (years + 3) / 4;
+    let mut n = 365 * years + years.div_ceil(4);
     for m in 1..month {
         n += days_in(year, m);
     }
@@ -41,8 +47,8 @@ pub fn yymmdd(day: Day) -> u32 {
     let mut n = day.0;
     let mut year = 1980 + 4 * (n / 1461);
     n %= 1461;
-    while n >= 365 + (year % 4 == 0) as u32 {
-        n -= 365 + (year % 4 == 0) as u32;
+    while n >= 365 + leap(year) {
+        n -= 365 + leap(year);
         year += 1;
     }
     let mut month = 1;

@@ -186,8 +186,8 @@ impl Model {
     pub fn step(&mut self, step: &Step) -> Answer {
         let answer = self.answer(step);
         let accepted = answer.reply.as_ref().is_some_and(|r| r[11] == b'K');
-        let register = !matches!(step.call, Call::Read { .. } | Call::End { .. } | Call::Copy { .. });
-        if answer.refusal == 0 && (accepted || register) {
+        let keeping = !matches!(step.call, Call::Read { .. } | Call::End { .. } | Call::Copy { .. });
+        if answer.refusal == 0 && (accepted || keeping) {
             self.changed();
         }
         answer
@@ -280,8 +280,8 @@ impl ModelFront {
         ModelFront { files: Vec::new(), fault: Fault::numbered(fault) }
     }
 
-    /// A register call on a table's bytes: nothing is written where it is refused.
-    fn register(&self, table: &mut [u8], call: impl FnOnce(&mut Bank) -> u32) -> u32 {
+    /// A call that keeps the table, on its bytes: nothing is written where it is refused.
+    fn keeping(&self, table: &mut [u8], call: impl FnOnce(&mut Bank) -> u32) -> u32 {
         let Some(mut bank) = Bank::decode(table) else { return 2 };
         let day = bank.day;
         let refusal = call(&mut bank);
@@ -364,7 +364,7 @@ impl Front for ModelFront {
         length_given: u32,
         length: u32,
     ) -> u32 {
-        self.register(table, |b| {
+        self.keeping(table, |b| {
             b.add(today, who, part1, part2, check, generation, types, agreed, leave, length_given, length)
         })
     }
@@ -378,15 +378,15 @@ impl Front for ModelFront {
         check: u32,
         generation: u32,
     ) -> u32 {
-        self.register(table, |b| b.enter(today, who, part1, part2, check, generation))
+        self.keeping(table, |b| b.enter(today, who, part1, part2, check, generation))
     }
     fn order(&mut self, table: &mut [u8], today: u32, who: &[u8], clock: u64) -> u32 {
-        self.register(table, |b| b.order(today, who, clock))
+        self.keeping(table, |b| b.order(today, who, clock))
     }
     fn open(&mut self, table: &mut [u8], session: &mut [u8], today: u32, time: u32, data_type: u32, clock: u64) -> u32 {
         let data_type = if session.len() == self.session_size() { data_type } else { 0 };
         let mut opened = None;
-        let refusal = self.register(table, |b| {
+        let refusal = self.keeping(table, |b| {
             let (refusal, file) = b.open(today, time, data_type, clock);
             opened = file;
             refusal

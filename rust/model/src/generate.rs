@@ -305,7 +305,7 @@ impl Maker {
                 self.add();
             }
         }
-        // One file alone, files one after the other, several at once, or mostly register calls.
+        // One file alone, files one after the other, several at once, or mostly calls that keep the table.
         let (files, at_once, registers) = match self.d.weighted(&[45, 30, 20, 5]) {
             0 => (1, 1, 0),
             1 => (self.d.between(2, 4), 1, 12),
@@ -317,7 +317,7 @@ impl Maker {
         while budget > 0 && (files > 0 || !self.pending.is_empty()) {
             budget -= 1;
             if self.d.chance(registers) {
-                self.register();
+                self.keeping();
                 continue;
             }
             if files > 0 && self.pending.len() < at_once && (self.pending.is_empty() || self.d.chance(40)) {
@@ -360,7 +360,7 @@ impl Maker {
         }
     }
 
-    // The register calls.
+    // The calls that keep the table.
 
     fn set_up(&mut self) {
         let d = &mut self.d;
@@ -514,7 +514,7 @@ impl Maker {
         self.push(Call::Order { today, who: name, clock });
     }
 
-    fn register(&mut self) {
+    fn keeping(&mut self) {
         match self.d.weighted(&[35, 30, 33, 2]) {
             0 => self.add(),
             1 => self.enter(),
@@ -665,7 +665,7 @@ impl Maker {
                 if self.d.chance(50) {
                     self.push(Call::Read { slot: p.slot, input: b"X".to_vec(), room: 317 });
                 } else {
-                    self.register();
+                    self.keeping();
                 }
             }
         }

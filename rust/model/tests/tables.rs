@@ -71,15 +71,15 @@ fn what_makes_bytes_no_table() {
     assert!(change(41, &[b' '; 8]), "blank qualifier");
     assert!(!change(49, &[b' '; 16]), "blank software");
     assert!(!change(65, &[111]), "floor");
-    assert!(!change(82, &t[86..90].to_vec()), "holidays rise strictly");
-    assert!(!change(c + 1109, &t[c..c + 25].to_vec()), "the same customer twice");
+    assert!(!change(82, &t[86..90]), "holidays rise strictly");
+    assert!(!change(c + 1109, &t[c..c + 25]), "the same customer twice");
     assert!(!change(c + 27, &[2]) && !change(c + 28, &[2]), "flags");
     assert!(!change(c + 29, &[0]) && !change(c + 29, &[61]), "length");
     assert!(!change(c + 30, &[10]), "generation");
     assert!(!change(c + 31, &[t[c + 31] ^ 1]), "parity");
     assert!(!change(c + 39, &[1]), "a previous key of zeros");
     assert!(!change(c + 40, &[1]), "no previous key, yet a generation");
-    assert!(!change(c + 57 + 10, &t[c + 57..c + 58].to_vec()), "previous generation as the current one");
+    assert!(!change(c + 57 + 10, &t[c + 57..c + 58]), "previous generation as the current one");
     assert!(!change(c + 57 + 19, &[0; 4]), "first day");
     assert!(!change(c + 57 + 19, &791231u32.to_le_bytes()), "first after last");
     assert!(!change(c + 84, &[65]), "stamps");

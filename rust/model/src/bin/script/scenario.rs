@@ -1060,7 +1060,7 @@ impl Maker {
         let mut bank = self.bank();
         let at = bank.find(&who(FIRST.0, FIRST.1)).expect("there");
         bank.customers[at].stamps =
-            (0..64).map(|k| Stamp { number: 941020_070000_000 + k, one_time_key: None }).collect();
+            (0..64).map(|k| Stamp { number: 941020070000000 + k, one_time_key: None }).collect();
         self.become_bank(&bank);
         self.esi_wished("no room", FIRST, |_| (), "E1034");
         self.esi_wished("no room, and a wrong key", FIRST, |w| w.working_key ^= 4, "E1020");
@@ -1070,8 +1070,8 @@ impl Maker {
         self.read("K1001");
         self.wished("no room", FIRST, |_| (), "E1034");
         let mut bank = self.bank();
-        bank.customers[at].stamps[0].number = 941011_070000_000;
-        bank.customers[at].stamps[9] = Stamp { number: 941010_070000_000, one_time_key: Some(0x5208290ED9BF0B6D) };
+        bank.customers[at].stamps[0].number = 941011070000000;
+        bank.customers[at].stamps[9] = Stamp { number: 941010070000000, one_time_key: Some(0x5208290ED9BF0B6D) };
         self.become_bank(&bank);
         self.wished(
             "room, and a one-time key of a batch too old",

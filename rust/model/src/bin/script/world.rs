@@ -56,9 +56,9 @@ impl World {
         match words[0] {
             b"#" | b"" => [line, b"\n"].concat(),
             b"setup" => self.setup(&words),
-            b"add" => self.register("add", |b| add(b, &words)),
-            b"key" => self.register("key", |b| enter(b, &words)),
-            b"order" => self.register("order", |b| b.order(decimal(words[1]) as u32, &bytes(words[2]), hex(words[3]))),
+            b"add" => self.keeping("add", |b| add(b, &words)),
+            b"key" => self.keeping("key", |b| enter(b, &words)),
+            b"order" => self.keeping("order", |b| b.order(decimal(words[1]) as u32, &bytes(words[2]), hex(words[3]))),
             b"open" => self.open(&words),
             b"file" => {
                 self.file.clear();
@@ -120,7 +120,7 @@ impl World {
     }
 
     /// A call that keeps the table: nothing is written where it is refused.
-    fn register(&mut self, word: &str, call: impl FnOnce(&mut Bank) -> u32) -> Vec<u8> {
+    fn keeping(&mut self, word: &str, call: impl FnOnce(&mut Bank) -> u32) -> Vec<u8> {
         let refusal = match self.bank() {
             None => 2,
             Some(mut bank) => {
@@ -138,7 +138,7 @@ impl World {
     fn open(&mut self, words: &[&[u8]]) -> Vec<u8> {
         let (today, time) = (decimal(words[1]) as u32, decimal(words[2]) as u32);
         let mut opened = None;
-        let out = self.register("open", |bank| {
+        let out = self.keeping("open", |bank| {
             let (refusal, file) = bank.open(today, time, decimal(words[3]) as u32, hex(words[4]));
             opened = file;
             refusal
