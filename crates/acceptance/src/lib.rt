@@ -68,8 +68,12 @@ fn is_old(s: u64, e: calendar::Date, today: calendar::Date, holidays: &[u32]) ->
 
 // The stamps that are not too old, in their order, from the front, with their one-time keys.
 fn keep_live(c: customer::Customer, today: calendar::Date, holidays: &[u32]) -> Live
-    ensures counted { λ r. ⌜ (r .count ≤ 64) × (r .count ≡ length (liveStamps (now (holidays .entry)) today c)) × (r .count ≡ length (liveOnce (now (holidays .entry)) today c)) ⌝ }
-    ensures placed { λ r. ⌜ (r .stamps ≡ inPlaces (liveStamps (now (holidays .entry)) today c)) × (r .once ≡ inPlaces (liveOnce (now (holidays .entry)) today c)) ⌝ }
+    ensures counted { λ r.
+        ⌜ (r .count ≤ 64) × (r .count ≡ length (liveStamps (now (holidays .entry)) today c))
+        × (r .count ≡ length (liveOnce (now (holidays .entry)) today c)) ⌝ }
+    ensures placed { λ r.
+        ⌜ (r .stamps ≡ inPlaces (liveStamps (now (holidays .entry)) today c))
+        × (r .once ≡ inPlaces (liveOnce (now (holidays .entry)) today c)) ⌝ }
 {
     let e = today.earliest_good(holidays);
     let held = places(c.count);

@@ -68,11 +68,11 @@ enc (within s) x = enc s x
 enc (s ⊗ t) (x, y) = enc s x ++ enc t y
 
 -- what f says of n places that are w apart, from o on; and whether each passes a test
-unfoldable pub repeated : {A : Type 0} → (ℕ → A) → ℕ → ℕ → ℕ → List A
+unfoldable pub repeated : {A : Type 0} → (ℕ → A) → (width n at : ℕ) → List A
 repeated f w zero o = []
 repeated f w (suc n) o = f o ∷ repeated f w n (o + w)
 
-unfoldable pub every : (ℕ → Bool) → ℕ → ℕ → ℕ → Bool
+unfoldable pub every : (ℕ → Bool) → (width n at : ℕ) → Bool
 every f w zero o = true
 every f w (suc n) o = both (f o) (every f w n (o + w))
 

@@ -324,7 +324,8 @@ fn first_broken(values: bool, code: u32, about: About, k: Kind, blank_over: bool
 
 // The first fault of a message that was collected whole: of the format, else of the values.
 fn first_fault(k: Kind, about: About, blank_over: bool, m: &[u8]) -> Fault
-    ensures { λ r. ⌜ r ≡ firstFailing (formChecks (formOf k) about (record { extent = Whole; blank = «blank_over»; text = now (m .entry) })) ⌝ }
+    ensures { λ r.
+        ⌜ r ≡ firstFailing (formChecks (formOf k) about (record { extent = Whole; blank = «blank_over»; text = now (m .entry) })) ⌝ }
 {
     let format = first_broken(false, 1010, about, k, blank_over, m);
     match format {
@@ -335,7 +336,8 @@ fn first_fault(k: Kind, about: About, blank_over: bool, m: &[u8]) -> Fault
 
 // The first fault: of a message that is one record alone by what made it so.
 pub fn fault_of(k: Kind, about: About, extent: Extent, blank_over: bool, m: &[u8]) -> Fault
-    ensures { λ r. ⌜ r ≡ firstFailing (formChecks (formOf k) about (record { extent = extent; blank = «blank_over»; text = now (m .entry) })) ⌝ }
+    ensures { λ r.
+        ⌜ r ≡ firstFailing (formChecks (formOf k) about (record { extent = extent; blank = «blank_over»; text = now (m .entry) })) ⌝ }
 {
     match extent {
         Extent::Whole => first_fault(k, about, blank_over, m),

@@ -56,7 +56,8 @@ fn run_end(input: &[u8], from: usize, l: session::Line) -> usize
 // The session after a run of characters.
 fn run_on(sbox: &[u8; 512], keys: [u64; 16], s: session::Session, bytes: &[u8]) -> session::Session
     requires { ⌜ (now sbox ≡ boxes) × (keys ≡ scheduleOf (keyOr0 (s .batch .once))) × (s .line .size + length (now bytes) ≤ 4294967295) ⌝ }
-    ensures { λ r. ⌜ r ≡ withLine (heard s (now (bytes .entry))) (record { size = s .line .size + length (now (bytes .entry)); cr = false }) ⌝ }
+    ensures { λ r.
+        ⌜ r ≡ withLine (heard s (now (bytes .entry))) (record { size = s .line .size + length (now (bytes .entry)); cr = false }) ⌝ }
 {
     let line = s.line;
     let size = line.size + bytes.len() as u32;
@@ -116,7 +117,10 @@ fn step(
 
 // Bytes up to the first reply: runs of characters at once, other bytes one by one; round keys are made anew where the one-time key changes.
 pub fn scan(s: session::Session, t: &mut [u8], input: &[u8]) -> Scanned
-    ensures { λ r. ⌜ (r .session ≡ scanned s (now (t .entry)) (now (input .entry)) .turn .out .session) × (r .reply ≡ scanned s (now (t .entry)) (now (input .entry)) .turn .out .reply) × (r .taken ≡ scanned s (now (t .entry)) (now (input .entry)) .taken) ⌝ }
+    ensures { λ r.
+        ⌜ (r .session ≡ scanned s (now (t .entry)) (now (input .entry)) .turn .out .session)
+        × (r .reply ≡ scanned s (now (t .entry)) (now (input .entry)) .turn .out .reply)
+        × (r .taken ≡ scanned s (now (t .entry)) (now (input .entry)) .taken) ⌝ }
     ensures { λ _. ⌜ now (t .exit) ≡ scanned s (now (t .entry)) (now (input .entry)) .turn .table ⌝ }
 {
     let sbox = des::box_table();

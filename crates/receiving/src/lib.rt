@@ -124,7 +124,8 @@ fn read_all(
 ) -> Going
     requires { ⌜ Good s (now t) × (length (sawFrom 0 s (now t) (now file) .given) + 1 < 2 ^ 64) ⌝ }
     ensures { λ r.
-        ⌜ AllRead (sawFrom 0 s (now (t .entry)) (now (file .entry))) (length (now (file .entry))) (now (replies .entry)) (now (places .entry))
+        ⌜ AllRead (sawFrom 0 s (now (t .entry)) (now (file .entry))) (length (now (file .entry))) (now (replies .entry))
+        (now (places .entry))
         r (now (t .exit)) (now (replies .exit)) (now (places .exit)) ⌝ }
 {
     let mut session = s;

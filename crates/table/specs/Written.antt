@@ -49,7 +49,7 @@ tableShape holidays customers =
     many customers customerShape  -- customers
 
 -- the header that the day and the two counts give
-abbrev pub headerTo : ℕ → ℕ → ℕ → Value headerShape
+abbrev pub headerTo : (day holidays customers : ℕ) → Value headerShape
 headerTo day holidays customers =
     (totalLength holidays customers, (day, (holidays, (holidaysStart, (customers, customersStart holidays)))))
 

@@ -74,7 +74,9 @@ pub fn setting_up_refusal(t: &[u8], s: Setting, holidays: &[u32]) -> u32
 
 // A new table without customers, of day 800101.
 pub fn set_up(t: &mut [u8], s: Setting, holidays: &[u32]) -> u32
-    ensures { λ r. ⌜ MeetsKeeping (settingUpAnswer (now (t .entry)) s (now (holidays .entry))) (settingUpLeaves (now (t .entry)) s (now (holidays .entry))) r (now (t .exit)) ⌝ }
+    ensures { λ r.
+        ⌜ MeetsKeeping (settingUpAnswer (now (t .entry)) s (now (holidays .entry)))
+        (settingUpLeaves (now (t .entry)) s (now (holidays .entry))) r (now (t .exit)) ⌝ }
 {
     let refused = setting_up_refusal(t, s, holidays);
     if refused != 0 {

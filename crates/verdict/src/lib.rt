@@ -81,7 +81,9 @@ fn accept(
     closing: [u8; 161],
     once: u64,
 ) -> acceptance::Granted
-    ensures { λ r. ⌜ (r ≡ grantTo (tableOf (now (t .entry))) o m closing) × (now (t .exit) ≡ pick sound (bytesAfter (now (t .entry)) o m closing once) (now (t .entry))) ⌝ }
+    ensures { λ r.
+        ⌜ (r ≡ grantTo (tableOf (now (t .entry))) o m closing)
+        × (now (t .exit) ≡ pick sound (bytesAfter (now (t .entry)) o m closing once) (now (t .entry))) ⌝ }
 {
     let today = o.today;
     let g = grant_to(t, o, m, closing);
@@ -130,7 +132,9 @@ fn conclude(
     closing: [u8; 161],
     once: u64,
 ) -> Outcome
-    ensures { λ r. ⌜ (r ≡ outcomeOf fault (grantTo (tableOf (now (t .entry))) o m closing) (o .made)) × (now (t .exit) ≡ bytesBy fault (now (t .entry)) (bytesAfter (now (t .entry)) o m closing once)) ⌝ }
+    ensures { λ r.
+        ⌜ (r ≡ outcomeOf fault (grantTo (tableOf (now (t .entry))) o m closing) (o .made))
+        × (now (t .exit) ≡ bytesBy fault (now (t .entry)) (bytesAfter (now (t .entry)) o m closing once)) ⌝ }
 {
     let sound = is_sound(fault);
     let g = accept(t, sound, o, m, closing, once);
