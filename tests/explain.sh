@@ -12,7 +12,7 @@ make_bank base >made
 fail() { echo "tests/explain: $*" >&2; cat out told >&2 2>/dev/null; exit 1; }
 
 # The layout: name, offset and width of each field, as specs/ has them.
-awk '/^ *field [0-9]+ "/ { split($0, part, "\""); n = split(part[3], width, " "); print part[2], at + 0, width[1]; at += width[1] }' \
+awk '/^ *laid \((sub)?field [0-9 ]+\) "/ { split($0, part, "\""); n = split(part[3], width, " "); print part[2], at + 0, width[1]; at += width[1] }' \
     "$root/crates/message/specs/Layout.antt" | head -22 >layout
 { [ "$(wc -l <layout)" -eq 22 ] && [ "$(tail -1 layout)" = "AVAINVAIHTO 160 1" ]; } || fail "the layout could not be read"
 
