@@ -9,7 +9,7 @@ program=${PROGRAM:-$root/target/program/lentilpot}
 work=$(mktemp -d)
 trap 'rm -rf "$work"' EXIT
 cd "$work"
-help=$root/crates/cli_terminal/src/help.rt
+help=$root/crates/cli_help/src/lib.rt
 page=$root/docs/lentilpot.1
 fail() {
     echo "tests/pages: $*" >&2
@@ -19,7 +19,7 @@ fail() {
 # ---- what is made
 
 sh "$root/scripts/pages" made
-for file in crates/cli_terminal/src/help.rt docs/lentilpot.1 docs/lentilpot.bash; do
+for file in crates/cli_help/src/lib.rt docs/lentilpot.1 docs/lentilpot.bash; do
     cmp -s "made/$file" "$root/$file" || {
         diff "$root/$file" "made/$file" >&2 || true
         fail "$file isn't what scripts/pages makes from docs/commands: run 'sh scripts/pages'"

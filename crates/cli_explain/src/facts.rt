@@ -1,11 +1,10 @@
 // What the bank has and what the message gives: version and floor, receiver and bank, data types, the key that is enclosed.
 use crate::parts::code_of;
-use crate::sheet;
-use crate::sheet::Sheet;
-use crate::texts;
+use cli_texts::sheet;
+use cli_texts::sheet::Sheet;
 
-// The bank's floor and name; the sender's data types; the generation of the current working key after a reply, and whether it was made for
-// that reply.
+// The bank's floor and name; the sender's data types; the generation of the current working key after a reply, and whether it was
+// made for that reply.
 pub struct Facts {
     floor: u32,
     bank: [u8; 25],
@@ -75,7 +74,7 @@ pub fn key_of(f: Facts, r: [u8; 237], key: u64) -> u64 {
         return key;
     }
     if f.is_new {
-        return texts::NEW_KEY;
+        return cli_texts::NEW_KEY;
     }
-    texts::CURRENT_KEY
+    cli_texts::CURRENT_KEY
 }

@@ -2,9 +2,8 @@
 use crate::heard::Heard;
 use crate::parts::code_of;
 use crate::parts::key_of;
-use crate::sheet;
-use crate::sheet::Sheet;
-use crate::texts;
+use cli_texts::sheet;
+use cli_texts::sheet::Sheet;
 
 // The fields of a message by their numbers, and the groups of fields 8, 9 and 12; where each begins and ends.
 const NUMBERS: [u32; 25] = [
@@ -184,14 +183,14 @@ pub fn key_at_hand(r: [u8; 237], m: [u8; 237], i: usize) -> u64 {
     let is_format = code_of(r) == 1010;
     if i == 0 {
         if is_format {
-            return texts::NO_ESI;
+            return cli_texts::NO_ESI;
         }
-        return texts::LATER_ESI;
+        return cli_texts::LATER_ESI;
     }
     if i == 1 {
         if is_format {
             if is_length_digits(m) {
-                return texts::OVER;
+                return cli_texts::OVER;
             }
         }
     }

@@ -1,8 +1,7 @@
 // The generations of keys that a customer holds.
-use crate::sheet;
-use crate::sheet::Sheet;
-use crate::texts;
-use crate::texts::Line;
+use cli_texts::Line;
+use cli_texts::sheet;
+use cli_texts::sheet::Sheet;
 
 fn with_previous(l: Line, before: Sheet, c: customer::Changeover) -> Line {
     let first = c.first;
@@ -10,13 +9,13 @@ fn with_previous(l: Line, before: Sheet, c: customer::Changeover) -> Line {
     let mut s = sheet::with_number(before, b'p', c.generation as u64);
     s = sheet::with_date(s, b'x', first);
     s = sheet::with_date(s, b'y', last);
-    texts::with_text(l, s, texts::PREVIOUS)
+    cli_texts::with_text(l, s, cli_texts::PREVIOUS)
 }
 
 fn with_keys(l: Line, before: Sheet, k: customer::KeyPair) -> Line {
     let previous = k.previous;
     let s = sheet::with_number(before, b'g', k.generation as u64);
-    let current = texts::with_text(l, s, texts::HELD);
+    let current = cli_texts::with_text(l, s, cli_texts::HELD);
     match previous {
         customer::Previous::Nothing => current,
         customer::Previous::Held(c) => with_previous(current, s, c),

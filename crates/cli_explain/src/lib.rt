@@ -5,19 +5,17 @@ mod file;
 mod generations;
 mod heard;
 mod parts;
-mod room;
-mod sheet;
-mod texts;
 
 use crate::file::Next;
 use crate::heard::Heard;
 use crate::parts::code_of;
 use crate::parts::first_of;
 use crate::parts::is_bare;
-use crate::sheet::Sheet;
-use crate::texts::Line;
-use crate::texts::with_advice;
-use crate::texts::with_text;
+use cli_texts::Line;
+use cli_texts::sheet;
+use cli_texts::sheet::Sheet;
+use cli_texts::with_advice;
+use cli_texts::with_text;
 
 // How many were accepted and refused, and how many batches were answered.
 pub struct Count {
@@ -65,7 +63,7 @@ fn counted_with(c: Count, r: [u8; 237]) -> Count {
     let is_accepted = r[11] == b'K';
     let accepted = one_if(is_accepted);
     let refused = one_if(!is_accepted);
-    let batches = one_if(parts::about_of(r) == texts::OF_BATCH);
+    let batches = one_if(parts::about_of(r) == cli_texts::OF_BATCH);
     Count {
         accepted: std::num::wrapping_add_u64(c.accepted, accepted),
         refused: std::num::wrapping_add_u64(c.refused, refused),
@@ -85,7 +83,7 @@ pub fn counted(c: Count, reply: &[u8]) -> Count {
 pub fn tell_count(fd: i32, c: Count) -> bool {
     let mut s = sheet::with_number(sheet::blank(), b'a', c.accepted);
     s = sheet::with_number(s, b'e', c.refused);
-    texts::is_written(fd, with_text(texts::no_line(), s, texts::COUNT))
+    cli_texts::is_written(fd, with_text(cli_texts::no_line(), s, cli_texts::COUNT))
 }
 
 // ---- a reply and its messages
@@ -99,7 +97,7 @@ fn with_whom(l: Line, s: Sheet, m: [u8; 237], who: usize, key: u64) -> Line {
     if !sheet::is_shown(m, 87, 102) {
         return named;
     }
-    with_text(named, s, texts::STAMP)
+    with_text(named, s, cli_texts::STAMP)
 }
 
 // Whether a reply's code leaves open whether its message is well formed: then the fields may stand elsewhere.
@@ -110,7 +108,7 @@ fn is_formless(r: [u8; 237]) -> bool {
         1023 => true,
         1024 => true,
         1032 => true,
-        texts::TOO_LARGE => true,
+        cli_texts::TOO_LARGE => true,
         _ => false,
     }
 }
@@ -118,18 +116,18 @@ fn is_formless(r: [u8; 237]) -> bool {
 // Those of a full reply are its own, those of a bare one the message's; where the message may not be well formed the file's ESI is named.
 fn with_customer(l: Line, s: Sheet, r: [u8; 237], m: [u8; 237]) -> Line {
     if !is_bare(r) {
-        return with_whom(l, s, r, 35, texts::CUSTOMER);
+        return with_whom(l, s, r, 35, cli_texts::CUSTOMER);
     }
     if is_formless(r) {
         if parts::is_esi(r) {
             return l;
         }
-        return with_text(l, s, texts::SENDER);
+        return with_text(l, s, cli_texts::SENDER);
     }
     if code_of(r) == 1033 {
-        return with_whom(l, s, m, 60, texts::IDENTITY);
+        return with_whom(l, s, m, 60, cli_texts::IDENTITY);
     }
-    with_whom(l, s, m, 60, texts::CUSTOMER)
+    with_whom(l, s, m, 60, cli_texts::CUSTOMER)
 }
 
 // Whom a reply answers: itself, the message, or the ESI's sender.
@@ -171,12 +169,12 @@ fn sender_of(m: [u8; 237]) -> [u8; 25] {
 
 // A batch has the lines from its SUO's first to where it was settled.
 fn place_key(r: [u8; 237], at: Settled) -> u64 {
-    if parts::about_of(r) == texts::OF_BATCH {
+    if parts::about_of(r) == cli_texts::OF_BATCH {
         if at.suo != at.line {
-            return texts::LINES;
+            return cli_texts::LINES;
         }
     }
-    texts::PLACE
+    cli_texts::PLACE
 }
 
 fn told_line(
@@ -196,13 +194,13 @@ fn told_line(
     let i = fields::named_in(r);
     let f = facts::of(t, after, who);
     let s = facts::with_facts(told_sheet(h, sender, r, batches, at, i), f, m, opening.kind);
-    let mut l = with_text(texts::no_line(), s, texts::BEGINNING);
+    let mut l = with_text(cli_texts::no_line(), s, cli_texts::BEGINNING);
     l = with_text(l, s, parts::about_of(r));
     l = with_text(l, s, place_key(r, at));
     l = with_text(l, s, facts::key_of(f, r, fields::key_at_hand(r, faulty, i)));
     l = generations::with_held(l, s, t, who, code_of(r));
     l = with_customer(l, s, r, m);
-    with_text(l, s, texts::END)
+    with_text(l, s, cli_texts::END)
 }
 
 // One reply: the line of the plain listing, then what is known of it. `t` and `after` are the table before and after it, `before` the
@@ -220,7 +218,7 @@ pub fn tell(
         return false;
     }
     let r = first_of(reply);
-    texts::is_written(fd, told_line(t, after, before, r, c.batches, at))
+    cli_texts::is_written(fd, told_line(t, after, before, r, c.batches, at))
 }
 
 // ---- a file of replies
@@ -231,22 +229,22 @@ fn with_answered(l: Line, s: Sheet, r: [u8; 237]) -> Line {
         return l;
     }
     if r[160] == b'1' {
-        return with_text(l, s, texts::ENCLOSED);
+        return with_text(l, s, cli_texts::ENCLOSED);
     }
-    with_text(l, s, texts::ANSWERED)
+    with_text(l, s, cli_texts::ANSWERED)
 }
 
 fn is_told(fd: i32, r: [u8; 237], c: Count) -> bool {
     let before = std::num::wrapping_add_u64(c.accepted, c.refused);
     let mut s = parts::sheet_of(r, c.batches, r, 35);
     s = sheet::with_number(s, b'o', std::num::wrapping_add_u64(before, 1));
-    let mut l = with_text(texts::no_line(), s, texts::NUMBER);
+    let mut l = with_text(cli_texts::no_line(), s, cli_texts::NUMBER);
     l = with_text(l, s, parts::about_of(r));
-    l = with_text(l, s, texts::NOTICE);
+    l = with_text(l, s, cli_texts::NOTICE);
     l = with_answered(l, s, r);
     l = with_advice(l, s, parts::key_of(r));
-    l = with_text(l, s, texts::END);
-    texts::is_written(fd, l)
+    l = with_text(l, s, cli_texts::END);
+    cli_texts::is_written(fd, l)
 }
 
 // Whether there may be another reply, how the file was told if not, and the count so far.

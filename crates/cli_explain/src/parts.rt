@@ -1,7 +1,6 @@
 // What a reply says by itself: its code, what it is about, whom it answers.
-use crate::sheet;
-use crate::sheet::Sheet;
-use crate::texts;
+use cli_texts::sheet;
+use cli_texts::sheet::Sheet;
 
 // The first 237 characters: all that an ESI has, and all of a PTE that says something.
 pub fn first_of(reply: &[u8]) -> [u8; 237] {
@@ -34,12 +33,12 @@ pub fn is_bare(r: [u8; 237]) -> bool {
 // What it is about, by its text: data outside a batch and a file that is too large are about none.
 pub fn about_of(r: [u8; 237]) -> u64 {
     if is_esi(r) {
-        return texts::OF_ESI;
+        return cli_texts::OF_ESI;
     }
     match key_of(r) {
-        1023 => texts::OUTSIDE,
-        texts::TOO_LARGE => texts::OF_FILE,
-        _ => texts::OF_BATCH,
+        1023 => cli_texts::OUTSIDE,
+        cli_texts::TOO_LARGE => cli_texts::OF_FILE,
+        _ => cli_texts::OF_BATCH,
     }
 }
 
@@ -48,7 +47,7 @@ pub fn key_of(r: [u8; 237]) -> u64 {
     let code = code_of(r);
     if code == 1034 {
         if is_bare(r) {
-            return texts::TOO_LARGE;
+            return cli_texts::TOO_LARGE;
         }
     }
     code

@@ -155,3 +155,16 @@ fn ended(path: &[u8]) -> [u8; PATH_MAX]
     ended[LAST] = 0;
     ended
 }
+
+// Whether two are the same file, whatever their names.
+pub fn is_same(a: Seen, b: Seen) -> bool {
+    if !a.found || !b.found {
+        return false;
+    }
+    a.device == b.device && a.inode == b.inode
+}
+
+// No process has a number below 1, and no file that is open is told by one.
+pub fn unsigned(n: i32) -> u32 {
+    if n > 0 { n as u32 } else { 0 }
+}

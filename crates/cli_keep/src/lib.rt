@@ -1,15 +1,10 @@
 // The commands that keep a table: setup, add, key, order, each one of `table_calls`'s calls between a load and a save.
+mod holidays;
 mod limits;
 
 use cli_files::Seen;
-use cli_folder::files;
-use cli_folder::files::Saved;
-use cli_folder::holidays;
-use cli_folder::lock;
-use cli_folder::names;
-use cli_folder::run;
-use cli_folder::run::Run;
-use cli_terminal::asked;
+use cli_run::Run;
+use cli_table::Saved;
 use cli_terminal::options;
 use cli_terminal::say;
 use cli_terminal::status::Status;
@@ -22,7 +17,7 @@ struct Held {
 
 fn not_held() -> Held {
     Held {
-        run: run::nobody(),
+        run: cli_run::nobody(),
         seen: cli_files::of_name(b""),
     }
 }
@@ -31,20 +26,20 @@ fn not_held() -> Held {
 fn saved(table: &[u8], t: &[u8], h: Held) -> Status {
     let r = h.run;
     let seen = h.seen;
-    let fd = files::begin(table);
+    let fd = cli_table::begin(table);
     if fd < 0 {
-        lock::release(table, r);
+        cli_lock::release(table, r);
         return Status::Trouble;
     }
-    if !lock::is_held(table, r) {
-        files::give_up(table, fd);
+    if !cli_lock::is_held(table, r) {
+        cli_table::give_up(table, fd);
         return Status::Trouble;
     }
-    let saved = files::save(table, fd, t, seen);
+    let saved = cli_table::save(table, fd, t, seen);
     if let Saved::Not = saved {
-        files::give_up(table, fd);
+        cli_table::give_up(table, fd);
     }
-    lock::release(table, r);
+    cli_lock::release(table, r);
     if let Saved::Whole = saved {
         return say::answer(0);
     }
@@ -54,37 +49,37 @@ fn saved(table: &[u8], t: &[u8], h: Held) -> Status {
 // Answers a call on that day that was refused.
 fn refused(table: &[u8], t: &[u8], h: Held, today: calendar::Date, refusal: u32) -> Status {
     let r = h.run;
-    lock::release(table, r);
+    cli_lock::release(table, r);
     cli_days::answer(table::day(t), today, 0, refusal)
 }
 
 // Takes the table and loads it for a call on that day; the lock stays only where that succeeds.
 fn loaded(table: &[u8], t: &mut [u8], today: calendar::Date) -> Held {
-    let r = lock::take(table);
+    let r = cli_lock::take(table);
     if r.process == 0 {
         return not_held();
     }
     let seen = cli_files::of_name(table);
-    if files::load(table, t) {
+    if cli_table::load(table, t) {
         if cli_days::is_meant(t, today) {
             return Held { run: r, seen };
         }
     }
-    lock::release(table, r);
+    cli_lock::release(table, r);
     not_held()
 }
 
 // ---- setup
 
 pub fn setup() -> Status {
-    if !asked::are_as_many(1, 9, 10) {
+    if !cli_asked::are_as_many(1, 9, 10) {
         return Status::Trouble;
     }
     if !options::are_taken(false, false) {
         return Status::Trouble;
     }
     let mut table = io::buffer();
-    let n = names::of_table(2, &mut table);
+    let n = cli_names::of_table(2, &mut table);
     if n == 0 {
         return Status::Trouble;
     }
@@ -92,21 +87,21 @@ pub fn setup() -> Status {
 }
 
 fn setup_words(table: &[u8]) -> Status {
-    let bank = asked::who(3, b"BANK");
+    let bank = cli_asked::who(3, b"BANK");
     if !bank.good {
         return Status::Trouble;
     }
-    let software = asked::software(5);
+    let software = cli_asked::software(5);
     if !software.good {
         return Status::Trouble;
     }
-    let cli_words::Number::Is(floor) = asked::digits(6, 1, 9, b"FLOOR", b"110 or 120") else {
+    let cli_words::Number::Is(floor) = cli_asked::digits(6, 1, 9, b"FLOOR", b"110 or 120") else {
         return Status::Trouble;
     };
-    let cli_words::Block::Of(key) = asked::key(7, b"K") else {
+    let cli_words::Block::Of(key) = cli_asked::key(7, b"K") else {
         return Status::Trouble;
     };
-    let cli_words::Block::Of(seed) = asked::key(8, b"V") else {
+    let cli_words::Block::Of(seed) = cli_asked::key(8, b"V") else {
         return Status::Trouble;
     };
     let d = holidays::asked(9);
@@ -126,13 +121,13 @@ fn setup_words(table: &[u8]) -> Status {
 }
 
 fn set_up(table: &[u8], s: table_calls::Setting, d: cli_words::Dates) -> Status {
-    let r = lock::take(table);
+    let r = cli_lock::take(table);
     if r.process == 0 {
         return Status::Trouble;
     }
     let seen = cli_files::of_name(table);
-    if !files::is_free(table) {
-        lock::release(table, r);
+    if !cli_table::is_free(table) {
+        cli_lock::release(table, r);
         return Status::Trouble;
     }
     set_up_held(table, Held { run: r, seen }, s, d)
@@ -146,7 +141,7 @@ fn set_up_held(table: &[u8], h: Held, s: table_calls::Setting, d: cli_words::Dat
     if refusal == 0 {
         return saved(table, &t, h);
     }
-    lock::release(table, r);
+    cli_lock::release(table, r);
     if refusal == 11 {
         return limits::answer_setup(s, d.count);
     }
@@ -168,18 +163,18 @@ fn length_of(i: usize) -> cli_words::Number {
     if options::count() <= i {
         return cli_words::Number::Is(0);
     }
-    asked::digits(i, 1, 9, b"LENGTH", b"days, 1 to 60")
+    cli_asked::digits(i, 1, 9, b"LENGTH", b"days, 1 to 60")
 }
 
 pub fn add() -> Status {
-    if !asked::are_as_many(2, 13, 14) {
+    if !cli_asked::are_as_many(2, 13, 14) {
         return Status::Trouble;
     }
     if !options::are_taken(true, false) {
         return Status::Trouble;
     }
     let mut table = io::buffer();
-    let n = names::of_table(2, &mut table);
+    let n = cli_names::of_table(2, &mut table);
     if n == 0 {
         return Status::Trouble;
     }
@@ -191,13 +186,13 @@ fn add_words(table: &[u8]) -> Status {
     if !k.good {
         return Status::Trouble;
     }
-    let cli_words::Number::Is(types) = asked::types(10) else {
+    let cli_words::Number::Is(types) = cli_asked::types(10) else {
         return Status::Trouble;
     };
-    let cli_words::Number::Is(agreed) = asked::choice(11, b"AGREED") else {
+    let cli_words::Number::Is(agreed) = cli_asked::choice(11, b"AGREED") else {
         return Status::Trouble;
     };
-    let cli_words::Number::Is(leave) = asked::choice(12, b"LEAVE") else {
+    let cli_words::Number::Is(leave) = cli_asked::choice(12, b"LEAVE") else {
         return Status::Trouble;
     };
     let cli_words::Number::Is(days) = length_of(13) else {
@@ -239,7 +234,7 @@ fn add_to(table: &[u8], a: table_calls::Adding) -> Status {
         return saved(table, &t, h);
     }
     if refusal == 11 {
-        lock::release(table, r);
+        cli_lock::release(table, r);
         return limits::answer_add(a);
     }
     refused(table, &t, h, today, refusal)
@@ -269,23 +264,23 @@ fn no_key() -> Entered {
 
 // DATE IDENTITY QUALIFIER PART1 PART2 CHECK GENERATION, from word 3 on.
 fn asked_key() -> Entered {
-    let cli_words::Number::Is(day) = asked::date(3) else {
+    let cli_words::Number::Is(day) = cli_asked::date(3) else {
         return no_key();
     };
-    let customer = asked::who(4, b"IDENTITY");
+    let customer = cli_asked::who(4, b"IDENTITY");
     if !customer.good {
         return no_key();
     }
-    let cli_words::Block::Of(part1) = asked::key(6, b"PART1") else {
+    let cli_words::Block::Of(part1) = cli_asked::key(6, b"PART1") else {
         return no_key();
     };
-    let cli_words::Block::Of(part2) = asked::key(7, b"PART2") else {
+    let cli_words::Block::Of(part2) = cli_asked::key(7, b"PART2") else {
         return no_key();
     };
-    let cli_words::Block::Of(check) = asked::check(8) else {
+    let cli_words::Block::Of(check) = cli_asked::check(8) else {
         return no_key();
     };
-    let cli_words::Number::Is(generation) = asked::generation(9) else {
+    let cli_words::Number::Is(generation) = cli_asked::generation(9) else {
         return no_key();
     };
     let who = customer.who;
@@ -304,14 +299,14 @@ fn asked_key() -> Entered {
 }
 
 pub fn key() -> Status {
-    if !asked::are_as_many(3, 10, 10) {
+    if !cli_asked::are_as_many(3, 10, 10) {
         return Status::Trouble;
     }
     if !options::are_taken(true, false) {
         return Status::Trouble;
     }
     let mut table = io::buffer();
-    let n = names::of_table(2, &mut table);
+    let n = cli_names::of_table(2, &mut table);
     if n == 0 {
         return Status::Trouble;
     }
@@ -337,7 +332,7 @@ fn enter(table: &[u8], e: table_calls::Entering) -> Status {
         return saved(table, &t, h);
     }
     if refusal == 12 {
-        lock::release(table, r);
+        cli_lock::release(table, r);
         return limits::answer_transport(&t, who);
     }
     refused(table, &t, h, today, refusal)
@@ -346,14 +341,14 @@ fn enter(table: &[u8], e: table_calls::Entering) -> Status {
 // ---- order
 
 pub fn order() -> Status {
-    if !asked::are_as_many(4, 7, 7) {
+    if !cli_asked::are_as_many(4, 7, 7) {
         return Status::Trouble;
     }
     if !options::are_taken(true, false) {
         return Status::Trouble;
     }
     let mut table = io::buffer();
-    let n = names::of_table(2, &mut table);
+    let n = cli_names::of_table(2, &mut table);
     if n == 0 {
         return Status::Trouble;
     }
@@ -361,14 +356,14 @@ pub fn order() -> Status {
 }
 
 fn order_words(table: &[u8]) -> Status {
-    let cli_words::Number::Is(day) = asked::date(3) else {
+    let cli_words::Number::Is(day) = cli_asked::date(3) else {
         return Status::Trouble;
     };
-    let customer = asked::who(4, b"IDENTITY");
+    let customer = cli_asked::who(4, b"IDENTITY");
     if !customer.good {
         return Status::Trouble;
     }
-    let cli_words::Block::Of(clock) = asked::key(6, b"CLOCK") else {
+    let cli_words::Block::Of(clock) = cli_asked::key(6, b"CLOCK") else {
         return Status::Trouble;
     };
     let who = customer.who;
@@ -391,7 +386,7 @@ fn order_in(table: &[u8], o: table_calls::Ordering) -> Status {
         return saved(table, &t, h);
     }
     if refusal == 12 {
-        lock::release(table, r);
+        cli_lock::release(table, r);
         return limits::answer_working(&t, who);
     }
     refused(table, &t, h, today, refusal)

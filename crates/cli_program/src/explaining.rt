@@ -1,8 +1,5 @@
 // The command explain: replies for people.
 use cli_explain::Told;
-use cli_folder::files;
-use cli_folder::names;
-use cli_terminal::asked;
 use cli_terminal::options;
 use cli_terminal::say;
 use cli_terminal::status::Status;
@@ -21,7 +18,7 @@ fn explained(path: &[u8], input: i32) -> Status {
     match told {
         Told::Whole => of_count(count),
         Told::NotReplies => {
-            files::tell(
+            cli_beside::tell(
                 path,
                 b"not a file of replies: expected one that 'receive' wrote, each reply of 237 or 317 characters and an LF\n",
             );
@@ -39,18 +36,18 @@ fn explained(path: &[u8], input: i32) -> Status {
 }
 
 pub fn explain() -> Status {
-    if !asked::are_as_many(7, 3, 3) {
+    if !cli_asked::are_as_many(7, 3, 3) {
         return Status::Trouble;
     }
     if !options::are_taken(false, false) {
         return Status::Trouble;
     }
     let mut path = io::buffer();
-    let n = names::of(2, b"REPLIES", &mut path);
+    let n = cli_names::of(2, b"REPLIES", &mut path);
     if n == 0 {
         return Status::Trouble;
     }
-    let input = files::open_told(b"can't open the replies", &path[..n]);
+    let input = cli_beside::open_told(b"can't open the replies", &path[..n]);
     if input < 0 {
         return Status::Trouble;
     }

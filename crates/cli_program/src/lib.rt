@@ -1,13 +1,10 @@
-// The program: a bank's table of customers in a file, and the files that customers send. Thin over the calls: `cli_keep` has the commands
-// that keep
-// a table, `cli_receive` and `cli_show` the commands receive and show, `cli_explain` what replies say, `cli_terminal` the words,
-// `cli_folder` the files.
+// The program: a bank's table of customers in a file, and the files that customers send. Thin over the calls: `cli_keep` has the
+// commands that keep a table, `cli_receive` and `cli_show` the commands receive and show, `cli_explain` what replies say,
+// `cli_asked` the words, `cli_table`, `cli_lock` and `cli_replies` the files.
 ghost use Prim.Native.Nat.{_<_};
 
 mod explaining;
 
-use cli_terminal::asked;
-use cli_terminal::help;
 use cli_terminal::options;
 use cli_terminal::say;
 use cli_terminal::status;
@@ -32,24 +29,24 @@ fn shown(is_written: bool) -> Status {
 
 // `help`, and `help COMMAND`.
 fn helped() -> Status {
-    if !asked::are_as_many(8, 2, 3) {
+    if !cli_asked::are_as_many(8, 2, 3) {
         return Status::Trouble;
     }
     if options::count() == 2 {
-        return shown(help::whole());
+        return shown(cli_help::whole());
     }
     let command = command_at(2);
     if command == 0 {
-        help::tell_names();
+        cli_help::tell_names();
         return Status::Trouble;
     }
-    shown(help::of(command))
+    shown(cli_help::of(command))
 }
 
 fn command_at(i: usize) -> u32 {
     let mut word = io::buffer();
     let n = options::word(i, &mut word);
-    help::command_of(&word[..n])
+    cli_help::command_of(&word[..n])
 }
 
 // A command, or what was asked in place of one.
@@ -57,22 +54,22 @@ fn of_words() -> Status {
     let command = command_at(1);
     if options::is_given(b"--help") || options::is_given(b"-h") {
         if command == 0 {
-            return shown(help::whole());
+            return shown(cli_help::whole());
         }
-        return shown(help::of(command));
+        return shown(cli_help::of(command));
     }
     if command != 0 {
         return served(command);
     }
     if os::arg_count() == 2 && options::is_given(b"--version") {
-        return shown(help::version());
+        return shown(cli_help::version());
     }
-    help::tell_names();
+    cli_help::tell_names();
     Status::Trouble
 }
 
-// Whether standard input, output and error are open: where one is not, a file of ours would get its number, and what is said would land in
-// it.
+// Whether standard input, output and error are open: where one is not, a file of ours would get its number, and what is said
+// would land in it.
 fn are_open() -> bool {
     let fd = os::open_read(b"/dev/null");
     if fd < 0 {
@@ -90,7 +87,7 @@ pub fn run() -> u32
         say::err(b"lentilpot: expected standard input, output and error to be open\n");
         return 2;
     }
-    if !asked::are_whole() {
+    if !cli_asked::are_whole() {
         return 2;
     }
     status::number(of_words())

@@ -1,23 +1,13 @@
 // The command receive. The order of writes: the replies beside their name, flushed; the table; the replies' name; then the listing. The
-// input is
-// read in parts and the replies are written as they come, so memory does not grow with the file.
-mod feeding;
-mod listing;
-
+// input is read in parts and the replies are written as they come, so memory does not grow with the file.
 use cli_files::Seen;
-use cli_folder::files;
-use cli_folder::lock;
-use cli_folder::names;
-use cli_folder::replies;
-use cli_folder::run::Run;
-use cli_terminal::asked;
+use cli_run::Run;
 use cli_terminal::options;
 use cli_terminal::say;
 use cli_terminal::status::Status;
 
 // How a run ended: with trouble that was told, with a refusal to answer on a table of that day, or with the replies to list (and, where
-// they are asked
-// for, the explanations).
+// they are asked for, the explanations).
 struct Done {
     refusal: u32,
     day: calendar::Date,
@@ -39,14 +29,14 @@ fn trouble() -> Done {
 // ---- words
 
 pub fn receive() -> Status {
-    if !asked::are_as_many(5, 9, 10) {
+    if !cli_asked::are_as_many(5, 9, 10) {
         return Status::Trouble;
     }
     if !options::are_taken(true, true) {
         return Status::Trouble;
     }
     let mut table = io::buffer();
-    let n = names::of_table(2, &mut table);
+    let n = cli_names::of_table(2, &mut table);
     if n == 0 {
         return Status::Trouble;
     }
@@ -54,20 +44,21 @@ pub fn receive() -> Status {
 }
 
 fn receive_words(table: &[u8]) -> Status {
-    let cli_words::Number::Is(day) = asked::date(3) else {
+    let cli_words::Number::Is(day) = cli_asked::date(3) else {
         return Status::Trouble;
     };
-    let cli_words::Number::Is(time) = asked::digits(4, 6, 6, b"TIME", b"six digits hhmmss") else {
-        return Status::Trouble;
-    };
-    let cli_words::Number::Is(kind) = asked::digits(5, 1, 9, b"TYPE", b"a data type, 1 to 16")
+    let cli_words::Number::Is(time) = cli_asked::digits(4, 6, 6, b"TIME", b"six digits hhmmss")
     else {
         return Status::Trouble;
     };
-    let cli_words::Block::Of(clock) = asked::key(6, b"CLOCK") else {
+    let cli_words::Number::Is(kind) = cli_asked::digits(5, 1, 9, b"TYPE", b"a data type, 1 to 16")
+    else {
         return Status::Trouble;
     };
-    let cli_words::Number::Is(size) = asked::read_size(9) else {
+    let cli_words::Block::Of(clock) = cli_asked::key(6, b"CLOCK") else {
+        return Status::Trouble;
+    };
+    let cli_words::Number::Is(size) = cli_asked::read_size(9) else {
         return Status::Trouble;
     };
     let today = calendar::Date { yymmdd: day };
@@ -83,12 +74,12 @@ fn receive_words(table: &[u8]) -> Status {
 // The names of the file and of the replies.
 fn receive_into(table: &[u8], o: opening::Opening, size: usize) -> Status {
     let mut file = io::buffer();
-    let n = names::of_input(7, &mut file);
+    let n = cli_names::of_input(7, &mut file);
     if n == 0 {
         return Status::Trouble;
     }
     let mut replies = io::buffer();
-    let m = names::of_replies(8, &mut replies);
+    let m = cli_names::of_replies(8, &mut replies);
     if m == 0 {
         return Status::Trouble;
     }
@@ -112,7 +103,7 @@ fn receive_file(
     if is_input(file) {
         return receive_open(table, libc::STDIN_FILENO, file, replies, o, size);
     }
-    let input = files::open_told(b"can't open the file to receive", file);
+    let input = cli_beside::open_told(b"can't open the file to receive", file);
     if input < 0 {
         return Status::Trouble;
     }
@@ -129,12 +120,12 @@ fn receive_open(
     o: opening::Opening,
     size: usize,
 ) -> Status {
-    let r = lock::take(table);
+    let r = cli_lock::take(table);
     if r.process == 0 {
         return Status::Trouble;
     }
     let done = under_lock(table, input, file, replies, r, o, size);
-    lock::release(table, r);
+    cli_lock::release(table, r);
     answered(done, replies, file, o)
 }
 
@@ -149,7 +140,7 @@ fn answered(done: Done, replies: &[u8], file: &[u8], o: opening::Opening) -> Sta
         return cli_days::answer(day, today, o.time, done.refusal);
     }
     if done.is_saved {
-        return listing::list(done.replies, done.explanations, replies, file, today);
+        return cli_listing::list(done.replies, done.explanations, replies, file, today);
     }
     Status::Trouble
 }
@@ -166,10 +157,10 @@ fn under_lock(
 ) -> Done {
     let mut t = [0u8; 49152];
     let seen = cli_files::of_name(table);
-    if !files::load(table, &mut t) {
+    if !cli_table::load(table, &mut t) {
         return trouble();
     }
-    if files::is_same(cli_files::of_open(input), seen) {
+    if cli_files::is_same(cli_files::of_open(input), seen) {
         say::expected(b"FILE", b"another file than TABLE");
         return trouble();
     }
@@ -203,17 +194,17 @@ fn make_table(
     s: session::Session,
     size: usize,
 ) -> Done {
-    let kept = files::begin(table);
+    let kept = cli_table::begin(table);
     if kept < 0 {
         return trouble();
     }
-    if !replies::is_free(replies) {
-        files::give_up(table, kept);
+    if !cli_replies::is_free(replies) {
+        cli_table::give_up(table, kept);
         return trouble();
     }
-    let out = replies::begin(replies, table, r);
+    let out = cli_replies::begin(replies, table, r);
     if out < 0 {
-        replies::undo(table, kept, r);
+        cli_replies::undo(table, kept, r);
         return trouble();
     }
     make_replies(table, kept, seen, input, file, replies, out, r, t, s, size)
@@ -233,15 +224,15 @@ fn make_replies(
     s: session::Session,
     size: usize,
 ) -> Done {
-    let explanations = listing::begin(replies);
+    let explanations = cli_listing::begin(replies);
     if !is_filled(input, file, out, explanations, replies, t, s, size) {
-        replies::remove(replies, out, r);
-        replies::undo(table, kept, r);
+        cli_replies::remove(replies, out, r);
+        cli_replies::undo(table, kept, r);
         return trouble();
     }
     // opened while the name is surely this run's, and listed once all is done
-    let listed = files::open_beside(replies, b".new");
-    let is_saved = replies::is_finished(table, kept, seen, replies, out, r, t);
+    let listed = cli_beside::open_beside(replies, b".new");
+    let is_saved = cli_replies::is_finished(table, kept, seen, replies, out, r, t);
     libc::close(out);
     Done {
         refusal: 0,
@@ -266,7 +257,7 @@ fn is_filled(
     if explanations < -1 {
         return false;
     }
-    if !feeding::is_received(input, file, out, explanations, replies, t, s, size) {
+    if !cli_feed::is_received(input, file, out, explanations, replies, t, s, size) {
         return false;
     }
     if libc::fsync(out) != 0 {
@@ -277,7 +268,7 @@ fn is_filled(
         );
         return false;
     }
-    if !files::flush_folder(replies) {
+    if !cli_beside::flush_folder(replies) {
         say::trouble(
             b"nothing was changed: can't flush the folder of the replies",
             replies,

@@ -1,9 +1,6 @@
 // The command show: what a table holds, with check values for keys. Each part says whether it could be written.
 ghost use Prim.Native.Nat.{_≤_};
 ghost use lib.ListN.{length};
-use cli_folder::files;
-use cli_folder::names;
-use cli_terminal::asked;
 use cli_terminal::options;
 use cli_terminal::say;
 use cli_terminal::status;
@@ -243,7 +240,7 @@ fn show_table(t: &[u8]) -> Status {
     if options::count() == 3 {
         return shown(bank(t) && customers(t));
     }
-    let customer = asked::who(3, b"IDENTITY");
+    let customer = cli_asked::who(3, b"IDENTITY");
     if !customer.good {
         return Status::Trouble;
     }
@@ -252,7 +249,7 @@ fn show_table(t: &[u8]) -> Status {
 }
 
 pub fn show() -> Status {
-    if !asked::are_as_many(6, 3, 5) {
+    if !cli_asked::are_as_many(6, 3, 5) {
         return Status::Trouble;
     }
     if options::count() == 4 {
@@ -263,12 +260,12 @@ pub fn show() -> Status {
         return Status::Trouble;
     }
     let mut path = io::buffer();
-    let n = names::of(2, b"TABLE", &mut path);
+    let n = cli_names::of(2, b"TABLE", &mut path);
     if n == 0 {
         return Status::Trouble;
     }
     let mut t = [0u8; 49152];
-    if !files::load(&path[..n], &mut t) {
+    if !cli_table::load(&path[..n], &mut t) {
         return Status::Trouble;
     }
     show_table(&t)

@@ -1,7 +1,4 @@
-// The words of the command line, what is said, the help, and how a command ends.
-pub mod asked;
-pub mod help;
+// The words of the command line and its options, what is said, and how a command ends.
 pub mod options;
 pub mod say;
-pub mod secret;
 pub mod status;

@@ -1,6 +1,5 @@
 // Options stand anywhere among the words and begin with two dashes; a word `--` ends them, so that a name may begin so too. The words are
-// counted
-// without them: word 0 is the program, word 1 the command.
+// counted without them: word 0 is the program, word 1 the command.
 ghost use Rattle.io.specs.Counts.{Counts};
 use crate::say;
 
