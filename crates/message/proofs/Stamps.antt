@@ -11,6 +11,7 @@ use Rattle.ground.specs.Lists.{part}
 use Rattle.ground.proofs.Lists.{part-full, parted}
 use Rattle.text.specs.Numbers.{digitValue, decimal, decimalFrom}
 use Rattle.text.proofs.Laws.{decimal-nil, decimal-cons, decimal-lt}
+use Rattle.calendar.specs.Dates.{dated}
 use Rattle.message.specs.Layout.{offsetIn, widthIn, fieldText}
 use Rattle.message.specs.Fields.{stampTextOf, stampOf, dateOfStamp}
 
@@ -62,9 +63,10 @@ module _ (m : List ℕ) (e : length m ≡ 161) where
   stamp-lt = below 87 15 (omega arith)
 
   -- the date stands before nine digits
-  pub stamp-date : dateOfStamp m ≡ stampOf m / 1000000000
+  pub stamp-date : dateOfStamp m ≡ dated (stampOf m / 1000000000)
   unfolding dateOfStamp stampOf stampTextOf fieldText offsetIn widthIn pick
-  stamp-date = omega (arith, split, below 93 9 (omega arith))
+  stamp-date =
+      let e : decimal (part 87 6 m) ≡ stampOf m / 1000000000 = omega (arith, split, below 93 9 (omega arith)) in ap dated e
 
   -- the time stands before three
   pub stamp-time : decimal (fieldText 122 m) ≡ stampOf m / 1000 % 1000000
