@@ -23,6 +23,7 @@ use Rattle.message.specs.declared.Extent.the-variants.{Whole, TooShort, LengthN
 use Rattle.message.specs.declared.Kind.{Kind}
 use Rattle.message.specs.declared.Kind.the-variants.{Esi, Suo, Var}
 use Rattle.whole_file.specs.Records.{cr, withoutCr}
+use Rattle.message.proofs.Places.{length-field}
 use Rattle.whole_file.specs.Messages.{begins, headLength, extentOf, wantsMore, textOf}
 
 -- ---- one CR at the end
@@ -151,7 +152,8 @@ told kind short p =
 
 pub extent-kept : (kind : Kind) (l : List ℕ) → extentOf kind (take 161 l) ≡ extentOf kind l
 unfolding extentOf
-extent-kept kind l = ap₂ (told kind) (kept-length l headLength (omega arith)) (part-kept l)
+extent-kept kind l = ap₂ (told kind) (kept-length l headLength (omega arith))
+    (length-field (take 161 l) ∙ part-kept l ∙ sym (length-field l))
 
 -- blanks past the layout's length are those among the first 161 and those past them
 pub blank-kept : (k : ℕ) (l : List ℕ) → k ≤ 161 → both (allBlank (drop k (take 161 l))) (allBlank (drop 161 l)) ≡ allBlank (drop k l)

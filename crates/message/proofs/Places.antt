@@ -1,6 +1,6 @@
 -- Where the fields stand: each begins where those before it end, which is computed for all of them, and what is read there.
 -- Assumes nothing.
-use mathlib.Core.Path.{_≡_, sym, ap, _∙_}
+use mathlib.Core.Path.{_≡_, refl, sym, ap, _∙_}
 use mathlib.Core.Logic.{⊎-elim}
 use mathlib.Core.List.{List, [], _∷_, _++_, map, append-nil}
 use Prim.Native.Nat.{ℕ, zero, suc, _+_, _-_, _^_, _≤_, _<_, zero-le, min}
@@ -20,7 +20,7 @@ use Rattle.text.specs.Numbers.{decimal, hex}
 use Rattle.text.proofs.Lists.{each}
 use Rattle.text.proofs.Laws.{decimal-lt}
 use Rattle.calendar.proofs.Walk.{below}
-use Rattle.message.specs.Layout.{Field, laid, noField, fields, total, offsetIn, widthIn, fieldText}
+use Rattle.message.specs.Layout.{Field, laid, field, noField, fields, total, offsetIn, widthIn, fieldText}
 
 -- a table that agrees with a rule at each place
 pub ruled : (f : ℕ → ℕ) (n k : ℕ) → k < n → (xs : List ℕ) → length xs ≡ n → T (table.every (λ k x. eqb x (f k)) 0 xs) → getD xs k 0 ≡ f k
@@ -88,6 +88,11 @@ pub placed : (i : ℕ) (m : List ℕ) → i < 22
     → part (total (take i fields)) (total (take (i + 1) fields) - total (take i fields)) m ≡ fieldText (numberAt i) m
 unfolding fieldText
 placed i m h = rw (add-one i, begins i h, wide i h)
+
+-- field 2, which states the length
+pub length-field : (m : List ℕ) → fieldText (field 2) m ≡ part 5 3 m
+unfolding fieldText offsetIn widthIn pick
+length-field m = refl
 
 -- ---- what is read at a place
 

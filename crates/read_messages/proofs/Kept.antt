@@ -21,7 +21,8 @@ use Rattle.message.specs.Layout.{layoutLength}
 use Rattle.message.specs.declared.Kind.{Kind}
 use Rattle.message.specs.declared.Extent.{Extent}
 use Rattle.message.specs.declared.Extent.the-variants.{Whole, TooShort, LengthNotDigits, OtherLength}
-use Rattle.whole_file.specs.Messages.{extentOf}
+use Rattle.message.proofs.Places.{length-field}
+use Rattle.whole_file.specs.Messages.{statedLength, extentOf}
 use Rattle.session.specs.Events.{held, collectedBy}
 use Rattle.session.specs.declared.Gathered.{Gathered}
 
@@ -69,12 +70,12 @@ module _ (kind : Kind) (n : ℕ) (l : List ℕ) where
   under-eleven h = sym (picks _ _ _ (lt-ltb _ _ h))
 
   module _ (h : 11 ≤ length (take n l)) where
-    whole-part : part 5 3 (take n l) ≡ part 5 3 l
+    whole-part : statedLength (take n l) ≡ part 5 3 l
     unfolding part
     whole-part =
         let e : length (take n l) ≡ min n (length l) = length-take n l in
         let m : 8 ≤ n = omega (arith, min-le-left n (length l)) in
-        take-drop 5 3 (take n l) ∙ ap (drop 5) (take-take 8 n l m) ∙ sym (take-drop 5 3 l)
+        length-field (take n l) ∙ take-drop 5 3 (take n l) ∙ ap (drop 5) (take-take 8 n l m) ∙ sym (take-drop 5 3 l)
 
     past-eleven : {A : Type 0} (a b : A) → pick (ltb (length (take n l)) 11) a b ≡ b
     past-eleven a b = skips _ a b (le-ltb _ _ h)
@@ -86,11 +87,11 @@ module _ (kind : Kind) (n : ℕ) (l : List ℕ) where
 
     module _ (b : Bool) (d : b ≡ all digit (part 5 3 l)) (t : b ≡ true) (r : ℕ) (e : r ≡ decimal (take 19 (part 5 3 l))) (len : ℕ)
         (g : len ≡ layoutLength kind) where
-      digits-in-it : {A : Type 0} (x y : A) → pick (fails (all digit (part 5 3 (take n l)))) x y ≡ y
+      digits-in-it : {A : Type 0} (x y : A) → pick (fails (all digit (statedLength (take n l)))) x y ≡ y
       unfolding fails
       digits-in-it x y = skips _ x y (ap (λ (p : List ℕ). fails (all digit p)) whole-part ∙ ap fails (sym d ∙ t))
 
-      read : r ≡ decimal (part 5 3 (take n l))
+      read : r ≡ decimal (statedLength (take n l))
       unfolding part
       read =
           let s : length (take 3 (drop 5 l)) ≤ 19 = simp length-take (le-trans (min-le-left 3 (length (drop 5 l))) (omega arith)) in
@@ -99,11 +100,11 @@ module _ (kind : Kind) (n : ℕ) (l : List ℕ) where
       pub other-length : (r ≡ len → ⊥) → OtherLength ≡ extentOf kind (take n l)
       unfolding extentOf fails
       other-length w =
-          let q : eqb (decimal (part 5 3 (take n l))) (layoutLength kind) ≡ false = ne-eqb _ _ (λ z. w (read ∙ z ∙ sym g)) in
+          let q : eqb (decimal (statedLength (take n l))) (layoutLength kind) ≡ false = ne-eqb _ _ (λ z. w (read ∙ z ∙ sym g)) in
           sym (past-eleven _ _ ∙ digits-in-it _ _ ∙ picks _ _ _ (ap fails q))
 
       pub its-length : r ≡ len → Whole ≡ extentOf kind (take n l)
       unfolding extentOf fails
       its-length w =
-          let q : eqb (decimal (part 5 3 (take n l))) (layoutLength kind) ≡ true = eq-eqb _ _ (sym read ∙ w ∙ g) in
+          let q : eqb (decimal (statedLength (take n l))) (layoutLength kind) ≡ true = eq-eqb _ _ (sym read ∙ w ∙ g) in
           sym (past-eleven _ _ ∙ digits-in-it _ _ ∙ skips _ _ _ (ap fails q))
