@@ -1,22 +1,21 @@
--- What is kept of a text is cut at the smaller of the count and the room, and a part that ends before the cut is the text's own.
+-- What is kept of a text: whether what is over is blank, and what the first record tells; its field 2 ends before any cut.
 -- Assumes nothing.
 use mathlib.Core.Path.{_≡_, sym, ap, _∙_}
 use mathlib.Core.Bool.{Bool, true, false}
 use mathlib.Core.List.{List}
-use Prim.Native.Nat.{ℕ, _+_, _-_, _≤_, _<_, min}
+use Prim.Native.Nat.{ℕ, _≤_, _<_, min}
 use native.Mathlib.Nat.{min-le-left, le-trans}
 use native.Mathlib.Omega.{arith}
 use borrow.Author.Tests.{lt-ltb, le-ltb, eq-eqb, ne-eqb}
 use lib.Dec.{eqb, ltb}
 use lib.ListN.{length, take, drop, length-take, drop-of-length-le}
-use lib.Seq.{take-take, take-all}
+use lib.Seq.{take-all}
 use Rattle.ground.specs.Choice.{both, fails, pick}
 use Rattle.ground.specs.Lists.{all, part}
 use Rattle.ground.proofs.Choices.{picks, skips, decides, fails-left}
-use Rattle.ground.proofs.Lists.{take-kept}
+use Rattle.ground.proofs.Parts.{part-take}
 use Rattle.text.specs.Characters.{digit, allBlank}
 use Rattle.text.specs.Numbers.{decimal}
-use Rattle.splices.proofs.Splice.{take-drop}
 use Rattle.message.specs.Layout.{layoutLength}
 use Rattle.message.specs.declared.Kind.{Kind}
 use Rattle.message.specs.declared.Extent.{Extent}
@@ -26,21 +25,11 @@ use Rattle.whole_file.specs.Messages.{statedLength, extentOf}
 use Rattle.session.specs.Events.{held, collectedBy}
 use Rattle.session.specs.declared.Gathered.{Gathered}
 
--- ---- the cut
-
-pub kept-length : (n room : ℕ) (l : List ℕ) → length l ≡ room → length (take n l) ≡ min n room
-kept-length n room l e = length-take n l ∙ ap (min n) e
-
 -- ---- what is over
 
 pub none-over : (from n : ℕ) (l : List ℕ) → length (take n l) ≤ from → true ≡ allBlank (drop from (take n l))
 unfolding all
 none-over from n l h = rw (drop-of-length-le (take n l) h)
-
-pub some-over : (from n k : ℕ) (l : List ℕ) → k ≡ length (take n l) → from < k → take (k - from) (drop from l) ≡ drop from (take n l)
-some-over from n k l e h =
-    let s : from + (k - from) ≡ k = omega arith in
-    take-drop from (k - from) l ∙ ap (λ (i : ℕ). drop from (take i l)) (s ∙ e) ∙ ap (drop from) (take-kept n l)
 
 module _ (kind : Kind) (extent : Extent) (g : Gathered) (len : ℕ) (b : Bool) (e : len ≡ layoutLength kind)
     (d : b ≡ allBlank (drop len (take (g .count) (g .text)))) where
@@ -71,11 +60,10 @@ module _ (kind : Kind) (n : ℕ) (l : List ℕ) where
 
   module _ (h : 11 ≤ length (take n l)) where
     whole-part : statedLength (take n l) ≡ part 5 3 l
-    unfolding part
     whole-part =
         let e : length (take n l) ≡ min n (length l) = length-take n l in
         let m : 8 ≤ n = omega (arith, min-le-left n (length l)) in
-        length-field (take n l) ∙ take-drop 5 3 (take n l) ∙ ap (drop 5) (take-take 8 n l m) ∙ sym (take-drop 5 3 l)
+        length-field (take n l) ∙ part-take l 5 3 n m
 
     past-eleven : {A : Type 0} (a b : A) → pick (ltb (length (take n l)) 11) a b ≡ b
     past-eleven a b = skips _ a b (le-ltb _ _ h)
