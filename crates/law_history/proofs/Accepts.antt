@@ -1,6 +1,5 @@
--- What an accepted message passed and what it leaves: its stamp was neither held nor too old; then it is held, and all but the sender's
--- record and the
--- key maker's seed is as it was.
+-- What an accepted message passed and what it leaves: its stamp was neither held nor too old;
+-- then it is held, and all but the sender's record and the key maker's seed is as it was.
 -- Assumes nothing.
 use Prim.Native.Nat.{ℕ}
 use mathlib.Core.Path.{_≡_, refl, sym, ap, _∙_, subst}

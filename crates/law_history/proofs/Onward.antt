@@ -1,6 +1,5 @@
--- A stamp that was accepted stays used: in the table after a call each record stands in its place and holds all its stamps but those that
--- are too old,
--- the day does not go back, and the holidays are the same, so that what is too old stays so.
+-- A stamp that was accepted stays used: in the table after a call each record stands in its place and holds all its stamps
+-- but those that are too old, the day does not go back, and the holidays are the same, so that what is too old stays so.
 -- Assumes nothing.
 use Prim.Native.Nat.{ℕ, _≤_, _<_}
 use mathlib.Core.Path.{_≡_, refl, sym, ap, _∙_}

@@ -1,5 +1,5 @@
--- The end of a record outside a frame and in one is what the tests that were passed choose: one law for each answer, over any session,
--- table and reply.
+-- The end of a record outside a frame and in one is what the tests that were passed choose:
+-- one law for each answer, over any session, table and reply.
 -- Assumes nothing.
 use mathlib.Core.Path.{_≡_, refl, ap, _∙_}
 use mathlib.Core.Bool.{Bool, true, false}
