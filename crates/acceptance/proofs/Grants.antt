@@ -1,16 +1,15 @@
 -- What acceptance grants: each choice is one of a few answers, and what holds of each of them holds of what is chosen.
 -- Assumes nothing.
 use mathlib.Core.Path.{_≡_, refl, sym, ap, subst, _∙_}
-use mathlib.Core.Bool.{Bool, true, false, not}
+use mathlib.Core.Bool.{Bool, true, false}
 use mathlib.Core.List.{List, [], _∷_}
 use mathlib.Core.Logic.{_⊎_, inl, inr, ⊎-elim}
 use Prim.Native.Nat.{ℕ, _≤_}
 use native.Mathlib.Omega.{arith}
-use Rattle.ground.specs.Choice.{either, fails, pick}
+use Rattle.ground.specs.Choice.{either, pick}
 use Rattle.ground.proofs.Choices.{picks, skips, left, right}
 use Rattle.ground.proofs.Bools.{picked-each}
 use Rattle.ground.specs.Lists.{member}
-use Rattle.ground.proofs.Bools.{turned}
 use Rattle.calendar.specs.Dates.{realDate}
 use Rattle.calendar.specs.declared.Date.{Date}
 use Rattle.keys.specs.Parity.{oddParity}
@@ -35,12 +34,6 @@ here r a b t e p = p ∙ sym (picks _ _ _ e)
 
 pub there : (r a b : Granted) (t : Bool) → t ≡ false → r ≡ b → r ≡ pick t a b
 there r a b t e p = p ∙ sym (skips _ _ _ e)
-
-pub forbidden : (t : Bool) → not t ≡ true → fails t ≡ true
-forbidden t e = sym (turned refl) ∙ e
-
-pub allowed : (t : Bool) → not t ≡ false → fails t ≡ false
-allowed t e = sym (turned refl) ∙ e
 
 -- ---- what holds of each answer
 

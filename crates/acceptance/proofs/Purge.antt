@@ -7,13 +7,13 @@ use mathlib.Core.Logic.{⊎-elim}
 use Prim.Native.Nat.{ℕ, zero, suc, _+_, _-_, _<_}
 use native.Mathlib.Numerals.{add-one}
 use native.Mathlib.Omega.{arith}
-use borrow.Author.Tests.{eqb-true, le-leb}
+use borrow.Author.Tests.{le-leb}
 use lib.Dec.{eqb}
 use lib.ListN.{length, take, replicate, length-append}
-use Rattle.ground.specs.Choice.{both, either, pick}
+use Rattle.ground.specs.Choice.{both, pick}
 use Rattle.ground.specs.Lists.{member}
 use Rattle.ground.proofs.Choices.{left, right, join, either-left, either-right, either-cases}
-use Rattle.ground.proofs.Lists.{member-cons, member-front, member-last, member-none}
+use Rattle.ground.proofs.Lists.{member-cons, member-front, member-last, member-none, member-pick, length-pick}
 use Rattle.ground.proofs.Bools.{under, unless}
 use Rattle.calendar.specs.declared.Date.{Date}
 use Rattle.customer.specs.Customer.{realStamp, soundOnce, soundStamps, soundCustomer}
@@ -22,19 +22,7 @@ use Rattle.customer.proofs.Laws.{used}
 use Rattle.acceptance.specs.Stamps.{heldStamps, stampOld, liveOf, liveStamps, liveOnce, inPlaces, withStamp}
 use Rattle.acceptance.proofs.Room.{in-places, length-in-places, all-held}
 
--- ---- what stands in a list
-
 -- ---- what is live
-
-clash : {b : Bool} → true ≡ false → b ≡ true
-clash e = cc
-
-member-pick : (s y : ℕ) (l : List ℕ) (b : Bool) → (y ≡ s → b ≡ false) → either (eqb y s) (member s l) ≡ true
-    → member s (pick b l (y ∷ l)) ≡ true
-unfolding pick member
-member-pick s y l true f e =
-    ⊎-elim {C = member s l ≡ true} (λ h. clash (f (eqb-true y s h))) (λ h. h) (either-cases (eqb y s) (member s l) e)
-member-pick s y l false f e = e
 
 module _ (hs : List ℕ) (today : Date) where
   member-live : (s : ℕ) (l : List ℕ) → member s l ≡ true → stampOld hs today s ≡ false → member s (liveOf hs today l l) ≡ true
@@ -101,12 +89,6 @@ sound-pick : (b : Bool) (s k : ℕ) (ss ks : List ℕ) → used s k ≡ true →
 unfolding pick soundStamps
 sound-pick true s k ss ks u e = e
 sound-pick false s k ss ks u e = join (used s k) _ u e
-
-length-pick : (b : Bool) (s k : ℕ) (ss ks : List ℕ) → length ss ≡ length ks
-    → length (pick b ss (s ∷ ss)) ≡ length (pick b ks (k ∷ ks))
-unfolding pick
-length-pick true s k ss ks e = e
-length-pick false s k ss ks e = ap suc e
 
 module _ (hs : List ℕ) (today : Date) where
   -- of sound stamps those that are live are sound

@@ -5,13 +5,9 @@ use mathlib.Core.List.{List, [], _∷_, _++_, append-assoc}
 use Prim.Native.Nat.{ℕ, suc, _+_, _-_, _≤_, _<_}
 use native.Mathlib.Omega.{arith}
 use lib.ListN.{length, take, set, replicate, length-append}
-use lib.Seq.{take-all, take-append-le, take-append-add, take-at, length-take-le, set-at}
-use Rattle.ground.proofs.Lists.{take-zeros}
+use lib.Seq.{take-append-le, take-append-add, take-at, length-take-le, set-at}
+use Rattle.ground.proofs.Parts.{take-zeros}
 use Rattle.acceptance.specs.Stamps.{inPlaces}
-
--- the first r of 64 are all that any larger count takes
-pub take-more : (n : ℕ) (l : List ℕ) → length l ≡ 64 → 64 ≤ n → take n l ≡ take 64 l
-take-more n l e h = take-all n l (omega arith) ∙ sym (take-all 64 l (omega arith))
 
 -- a list and zeros after it
 pub in-places : (l : List ℕ) → length l ≤ 64 → inPlaces l ≡ l ++ replicate (64 - length l) 0

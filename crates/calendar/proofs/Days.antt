@@ -10,11 +10,12 @@ use borrow.Author.Tests.{ltb-true, ltb-false, lt-ltb, le-ltb}
 use lib.Dec.{ltb}
 use Rattle.ground.specs.Choice.{both, either, fails, one, pick, between}
 use Rattle.ground.proofs.Choices.{left, right, join, between-true, between-in}
+use Rattle.ground.proofs.Numbers.{below}
 use Rattle.calendar.specs.Dates.{yearOf, monthOf, dayOf, placeInOrder, leap, daysIn, daysInYear, realDate, earlier, yearsBefore}
 use Rattle.calendar.specs.Dates.{monthsBefore, dayNumber, inYear, fromYear, dateOf, isBefore, later}
 use Rattle.calendar.specs.declared.CalendarDays.{CalendarDays}
 use Rattle.calendar.specs.declared.Date.{Date}
-use Rattle.calendar.proofs.Walk.{below, found, lands, past, mono}
+use Rattle.calendar.proofs.Walk.{found, lands, past, mono}
 use Rattle.calendar.proofs.Months.{days-in-le, beforeYear, month-step, year-step, twelve, from-zero, from-walk, monthDay, yearDate}
 use Rattle.calendar.proofs.Months.{years-le, months-le, no-years, no-months, from-one}
 

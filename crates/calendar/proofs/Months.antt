@@ -1,7 +1,7 @@
 -- The lengths of months and years, the two sums over them, and the two walks.
 -- Assumes nothing.
 use mathlib.Core.Path.{_≡_, refl, sym, ap, _∙_}
-use mathlib.Core.Bool.{Bool, true, false}
+use mathlib.Core.Bool.{Bool}
 use mathlib.Core.List.{[], _∷_}
 use mathlib.Core.Logic.{_⊎_, inl, inr, ⊎-elim}
 use Prim.Native.Nat.{ℕ, zero, suc, _+_, _-_, _*_, _%_, _≤_, _<_}
@@ -15,9 +15,10 @@ use Rattle.ground.specs.Choice.{both, either, fails, pick, one}
 use Rattle.ground.specs.Lists.{member}
 use Rattle.ground.proofs.Choices.{picks, skips}
 use Rattle.ground.proofs.Table.{at}
-use Rattle.ground.proofs.Bools.{one-le, tested}
+use Rattle.ground.proofs.Bools.{one-le, tested, either-false, both-true}
+use Rattle.ground.proofs.Numbers.{below}
 use Rattle.calendar.specs.Dates.{leap, lengths, daysIn, daysInYear, yearsBefore, monthsBefore, inYear, fromYear}
-use Rattle.calendar.proofs.Walk.{below, walk, most}
+use Rattle.calendar.proofs.Walk.{walk, most}
 
 -- ---- lengths
 
@@ -60,15 +61,10 @@ pub february : (y : ℕ) (b : Bool) → leap y ≡ b → daysIn y 2 ≡ 28 + one
 unfolding daysIn both
 february y b e = rw e
 
-alone : (t : Bool) → either (both t true) false ≡ t
-unfolding both either
-alone true = refl
-alone false = refl
-
 -- where no century is in the way, four decide
 pub by-four : (y : ℕ) → (y % 100 ≡ 0 → ⊥) → (y % 400 ≡ 0 → ⊥) → leap y ≡ eqb (y % 4) 0
 unfolding leap fails
-by-four y p q = rw (ne-eqb (y % 100) 0 p, ne-eqb (y % 400) 0 q) (alone (eqb (y % 4) 0))
+by-four y p q = rw (ne-eqb (y % 100) 0 p, ne-eqb (y % 400) 0 q) (either-false _ ∙ both-true (eqb (y % 4) 0))
 
 pub days-in-le : (y m : ℕ) → daysIn y m ≤ 32
 unfolding daysIn

@@ -10,10 +10,10 @@ use borrow.Author.Tests.{ltb-true, ltb-false, lt-ltb, le-ltb}
 use lib.Dec.{ltb}
 use Rattle.ground.specs.Choice.{one, pick}
 use Rattle.ground.proofs.Choices.{picks, skips}
+use Rattle.ground.proofs.Numbers.{below}
 use Rattle.calendar.specs.Dates.{realDate, isBefore, dayNumber, dateOf}
 use Rattle.calendar.specs.Banking.{bankingDay, bankingAmong, bankingDaysAfter, tooOld, firstGood, earliestGood}
 use Rattle.calendar.specs.declared.Date.{Date}
-use Rattle.calendar.proofs.Walk.{below}
 use Rattle.calendar.proofs.Days.{day-number-lt, day-of-date, date-real, earlier-days, not-earlier}
 
 module _ (hs : List ℕ) where

@@ -1,5 +1,5 @@
 -- Dates yymmdd of the years 1980 to 2079, and times hhmmss (document 01, 'Covered').
--- Their arithmetic is over the numbers; `isBefore` and `later` are what is said of dates.
+-- Their arithmetic is over the numbers; `isReal`, `isBefore` and `later` are what is said of dates.
 -- Assumes nothing.
 use Prim.Native.Nat.{ℕ, zero, suc, _+_, _-_, _*_, _/_, _%_}
 use mathlib.Core.Bool.{Bool}
@@ -53,6 +53,10 @@ placeInOrder d = (d + 200000) % 1000000
 
 unfoldable pub earlier : ℕ → ℕ → Bool
 earlier a b = ltb (placeInOrder a) (placeInOrder b)
+
+-- a date that is real
+abbrev pub isReal : Date → Bool
+isReal d = realDate (d .yymmdd)
 
 abbrev pub isBefore : Date → Date → Bool
 isBefore a b = earlier (a .yymmdd) (b .yymmdd)

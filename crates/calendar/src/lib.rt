@@ -2,7 +2,7 @@
 ghost use mathlib.Core.Path.{_≡_};
 ghost use Prim.Native.Nat.{_+_, _<_};
 ghost use Rattle.ground.specs.Lists.{member};
-ghost use Rattle.calendar.specs.Dates.{leap, daysIn, daysInYear, realDate, realTime, placeInOrder, isBefore, yearsBefore};
+ghost use Rattle.calendar.specs.Dates.{leap, daysIn, daysInYear, realTime, placeInOrder, isReal, isBefore, yearsBefore};
 ghost use Rattle.calendar.specs.Dates.{monthsBefore, dayNumber, inYear, dateOf, later};
 ghost use Rattle.calendar.specs.Banking.{weekday, bankingDay, moreThan, tooOld, firstGood, earliestGood};
 
@@ -193,7 +193,7 @@ fn place_in_order(d: u32) -> u32
 impl Date {
     // Whether this is a date of the calendar.
     pub fn is_real(self) -> bool
-        ensures { λ r. ⌜ r ≡ realDate (self .yymmdd) ⌝ }
+        ensures { λ r. ⌜ r ≡ isReal self ⌝ }
     {
         let d = self.yymmdd as u64;
         if 1000000 <= d {

@@ -13,9 +13,8 @@ pub struct OpenAnswer {
     pub session: session::Session,
 }
 
-// What a read or an end answers: the refusal's number or 0, the bytes taken, the reply's length (0: none), whether the file is finished,
-// and
-// the session to hand in with the next call.
+// What a read or an end answers: the refusal's number or 0, the bytes taken, the reply's length (0: none),
+// whether the file is finished, and the session to hand in with the next call.
 pub struct Answer {
     pub refusal: u32,
     pub taken: usize,

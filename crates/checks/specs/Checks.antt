@@ -7,7 +7,7 @@ use lib.Dec.{eqb, ltb, leb}
 use lib.ListN.{length}
 use Rattle.ground.specs.Choice.{both, either, fails}
 use Rattle.ground.specs.Lists.{same}
-use Rattle.calendar.specs.Dates.{dated, isBefore}
+use Rattle.calendar.specs.Dates.{isBefore}
 use Rattle.calendar.specs.Banking.{tooOld}
 use Rattle.calendar.specs.declared.Date.{Date}
 use Rattle.keys.specs.Parity.{oddParity}
@@ -75,8 +75,8 @@ partyChecks t m =
 -- 1015 more than five banking days lie after the stamp's date and up to today; 1016 date after today; 1018 the customer holds that stamp
 unfoldable pub stampChecks : Table → Customer → (today : Date) (m : List ℕ) → List Check
 stampChecks t c today m =
-    check 1015 (tooOld (t .holidays) (dated (dateOfStamp m)) today) ∷
-    check 1016 (isBefore today (dated (dateOfStamp m))) ∷
+    check 1015 (tooOld (t .holidays) (dateOfStamp m) today) ∷
+    check 1016 (isBefore today (dateOfStamp m)) ∷
     check 1018 (holdsStamp c (stampOf m)) ∷ []
 
 -- 1034: 64 accepted stamps not too old are held
@@ -88,8 +88,8 @@ roomChecks t c today = check 1034 (leb 64 (length (liveStamps (t .holidays) toda
 -- 1013 and 1014: a generation neither current, nor previous with the stamp's date within first to last day; 1020 the checksum
 unfoldable pub esiKeyChecks : Customer → List ℕ → List Check
 esiKeyChecks c m =
-    check 1013 (fails (goodFor (c .transport) (transportGenerationOf m) (dated (dateOfStamp m)))) ∷
-    check 1014 (fails (goodFor (c .working) (workingGenerationOf m) (dated (dateOfStamp m)))) ∷
+    check 1013 (fails (goodFor (c .transport) (transportGenerationOf m) (dateOfStamp m))) ∷
+    check 1014 (fails (goodFor (c .working) (workingGenerationOf m) (dateOfStamp m))) ∷
     check 1020 (checksumDiffers (heldKey (c .working) (workingGenerationOf m)) m) ∷ []
 
 unfoldable pub esiChecks : Table → (today : Date) → Collected → List Check
@@ -128,7 +128,7 @@ pairChecks suo var =
 unfoldable pub keyChecks : Table → Customer → (today : Date) → Frame → List Check
 keyChecks t c today f =
     let m : List ℕ = f .suo .text in
-    let date : Date = dated (dateOfStamp m) in
+    let date : Date = dateOfStamp m in
     check 1013 (either (isMissing (f .once)) (fails (goodFor (c .transport) (transportGenerationOf m) date))) ∷
     check 1014 (fails (goodFor (c .working) (workingGenerationOf m) date)) ∷
     check 1017 (onceUsed (t .holidays) today c (keyOr0 (f .once))) ∷

@@ -7,9 +7,10 @@ use native.Mathlib.Nat.{zero-add, mul-zero, mul-suc}
 use native.Mathlib.Omega.{arith}
 use lib.ListN.{length, set}
 use lib.Seq.{drop-at}
+use Rattle.ground.specs.Lists.{Each}
 use Rattle.splices.specs.Bytes.{flat, splice}
 use Rattle.splices.proofs.Splice.{splice-left, splice-right, splice-zero}
-use Rattle.codec.specs.Layout.{Shape, Value, width, enc, dec, Each, Sized}
+use Rattle.codec.specs.Layout.{Shape, Value, width, enc, dec, Sized}
 use Rattle.codec.specs.Field.{In, here, first, later, inside, offset, get, change}
 use Rattle.codec.proofs.Laws.{wide, splice-all}
 

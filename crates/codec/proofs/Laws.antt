@@ -5,34 +5,28 @@ use mathlib.Core.Bool.{Bool, true, false}
 use mathlib.Core.List.{List, [], _∷_, _++_, append-nil}
 use mathlib.Core.Option.{none, some}
 use Prim.Native.Nat.{ℕ, zero, suc, _+_, _*_, _^_, _<_, _≤_}
-use native.Mathlib.Nat.{add-comm, mul-zero, mul-suc, mul-le-mul-left}
+use native.Mathlib.Nat.{mul-zero, mul-suc, mul-le-mul-left}
 use native.Mathlib.Decide.{decLt}
 use native.Mathlib.Omega.{arith}
 use borrow.Author.Tests.{eqb-true, eq-eqb, ne-eqb, ltb-true, lt-ltb}
 use lib.Dec.{eqb, ltb}
-use lib.ListN.{length, take, drop, getD, replicate, length-append, length-replicate, length-take, drop-of-length-le, List·getD-eq-default}
-use lib.Seq.{take-at, drop-at, take-take, take-all}
+use lib.ListN.{length, getD, replicate, length-append, length-replicate, drop-of-length-le, List·getD-eq-default}
 use Rattle.ground.specs.Choice.{both, pick}
-use Rattle.ground.specs.Lists.{part, same}
-use Rattle.ground.proofs.Choices.{left, right, picks, skips, same-eq, eq-same}
+use Rattle.ground.specs.Lists.{part, same, Each}
+use Rattle.ground.proofs.Choices.{left, right, picks, skips, eq-same}
+use Rattle.ground.proofs.Lists.{each, each-at, same-append, same-decided}
+use Rattle.ground.proofs.Parts.{first-of, rest-of, part-length, part-zero, part-part, part-add}
+use Rattle.ground.proofs.Numbers.{one-and}
 use Rattle.splices.specs.Bytes.{num, bytesOf, nums, bytesOfAll, flat, splice}
-use Rattle.splices.proofs.Splice.{AllBytes, bytes-part, part-length, part-zero, part-part, part-add, splice-length, splice-splice}
+use Rattle.splices.proofs.Splice.{AllBytes, bytes-part, splice-length, splice-splice}
 use Rattle.splices.proofs.Splice.{splice-zero}
 use Rattle.splices.proofs.Chunks.{bytesOf-length, bytesOf-bytes, bytesOfAll-length, num-bytes, bytes-num-at, bytesOfAll-nums, nums-length}
-use Rattle.splices.proofs.Chunks.{getD-nums, num-lt, nums-bytesOfAll, each-at}
+use Rattle.splices.proofs.Chunks.{getD-nums, num-lt, nums-bytesOfAll}
 use Rattle.codec.specs.Layout.{Shape, number, named, text, numbers, many, perhaps, within, _⊗_, Value, width, enc, repeated, every}
 use Rattle.codec.specs.Layout.{dec, ok, scalar}
-use Rattle.codec.specs.Layout.{Each, Sized, Fits, laid}
+use Rattle.codec.specs.Layout.{Sized, Fits, laid}
 
 -- ---- n of a kind
-
-pub each {ℓ} : {A : Type ℓ} {P Q : A → Type 0} → ((x : A) → P x → Q x) → (l : List A) → Each P l → Each Q l
-each f [] e = tt
-each f (x ∷ l) e = (f x (e .0), each f l (e .1))
-
--- one and those past it
-one-and : (w n : ℕ) → w * suc n ≡ w + w * n
-one-and w n = mul-suc w n ∙ add-comm (w * n) w
 
 pub repeated-length : {A : Type 0} (f : ℕ → A) (w n o : ℕ) → length (repeated f w n o) ≡ n
 unfolding repeated
@@ -92,22 +86,6 @@ wide (within s) x h = wide s x h
 wide (s ⊗ t) (x, y) h = length-append (enc s x) (enc t y) ∙ ap₂ _+_ (wide s x (h .0)) (wide t y (h .1))
 
 -- ---- what is written is read back
-
--- a part that is two lists, one after the other, is the two parts
-part-short : (l : List ℕ) (o n : ℕ) → length (part o n l) ≤ n
-unfolding part
-part-short l o n = simp length-take (omega arith)
-
-module _ (l a b : List ℕ) (o n m : ℕ) (e : length a ≡ n) (h : part o (n + m) l ≡ a ++ b) where
-  first-of : part o n l ≡ a
-  unfolding part
-  first-of = sym (take-take n (n + m) (drop o l) (omega arith)) ∙ ap (take n) h ∙ take-at a b n e
-
-  rest-of : part (o + n) m l ≡ b
-  unfolding part
-  rest-of =
-      let k : length b ≤ m = omega (arith, part-short l o (n + m), ap length h, length-append a b) in
-      sym (part-part l o (n + m) n m (omega arith)) ∙ ap (part n m) h ∙ ap (take m) (drop-at a b n e) ∙ take-all m b k
 
 zero-first : (n : ℕ) → replicate (suc n) 0 ≡ bytesOf 1 0 ++ replicate n 0
 unfolding bytesOf
@@ -182,28 +160,6 @@ dec-sized (perhaps s) o l h = go (eqb (num (part o 1 l)) 1) (dec-sized s (o + 1)
 dec-sized (within s) o l h = dec-sized s o l h
 dec-sized (s ⊗ t) o l h = (dec-sized s o l (omega arith), dec-sized t (o + width s) l (omega arith))
 
-both-assoc : (a b c : Bool) → both a (both b c) ≡ both (both a b) c
-unfolding both
-both-assoc true b c = refl
-both-assoc false b c = refl
-
-same-append : (a b c d : List ℕ) → length a ≡ length c → same (a ++ b) (c ++ d) ≡ both (same a c) (same b d)
-unfolding same both
-same-append [] b [] d e = refl
-same-append [] b (y ∷ c) d e = absurd (omega arith)
-same-append (x ∷ a) b [] d e = absurd (omega arith)
-same-append (x ∷ a) b (y ∷ c) d e =
-    ap (both (eqb x y)) (same-append a b c d (omega arith)) ∙ both-assoc (eqb x y) (same a c) (same b d)
-
--- two tests that follow from each other
-agree : (t : Bool) (a b : List ℕ) → (t ≡ true → a ≡ b) → (a ≡ b → t ≡ true) → t ≡ same a b
-agree t a b f g = go t (same a b) (λ e. eq-same a b (f e)) (λ e. g (same-eq a b e))
-  where
-    go : (t u : Bool) → (t ≡ true → u ≡ true) → (u ≡ true → t ≡ true) → t ≡ u
-    go true u p q = sym (p refl)
-    go false true p q = q refl
-    go false false p q = refl
-
 module _ (l : List ℕ) (b : AllBytes l) (o : ℕ) where
   whole : (w : ℕ) → o + w ≤ length l → bytesOf w (num (part o w l)) ≡ part o w l
   whole w h = bytes-num-at w (part o w l) (part-length l o w h) (bytes-part o w l b)
@@ -228,7 +184,7 @@ exact (number w) o l b h = sym (eq-same (bytesOf w (num (part o w l))) (part o w
 exact (named n) o l b h =
     let x = num (part o 1 l) in
     let y = n .number (n .numbered x) in
-    agree (ltb x (n .size)) (bytesOf 1 y) (part o 1 l)
+    same-decided (ltb x (n .size)) (bytesOf 1 y) (part o 1 l)
     (λ e. ap (bytesOf 1) (n .back x (ltb-true x (n .size) e)) ∙ whole l b o 1 h)
     (λ e. let k : y < 256 ^ 1 = omega (arith, n .small (n .numbered x), n .byte) in
     let q : y ≡ x = sym (num-bytes 1 y k) ∙ ap num e in
@@ -312,21 +268,6 @@ module _ (s : Shape) (o : ℕ) (l : List ℕ) where
   unfolding ok
   ok-some e = picks (eqb (num (part o 1 l)) 1) (ok s (o + 1) l) (same (replicate (suc (width s)) 0) (part o (suc (width s)) l))
       (eq-eqb (num (part o 1 l)) 1 e)
-
--- ---- tests
-
--- lists that cannot be equal are told apart, and those that differ at a place
-pub differ : (a b : List ℕ) → (a ≡ b → ⊥) → false ≡ same a b
-differ a b n = agree false a b (λ e. let z : _≡_ {A = ℕ} 0 1 = cc in absurd (omega arith)) (λ e. absurd (n e))
-
-pub differ-at : (a b : List ℕ) (k : ℕ) → (getD a k 0 ≡ getD b k 0 → ⊥) → false ≡ same a b
-differ-at a b k n = differ a b (λ e. n (ap (λ (x : List ℕ). getD x k 0) e))
-
--- a test that nothing follows
-pub last-test : (t : Bool) → both t true ≡ t
-unfolding both
-last-test true = refl
-last-test false = refl
 
 -- ---- what bytes say fits
 

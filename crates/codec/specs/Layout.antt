@@ -9,7 +9,7 @@ use Prim.Native.Nat.{ℕ, zero, suc, _+_, _*_, _^_, _<_, _≤_}
 use lib.Dec.{eqb, ltb}
 use lib.ListN.{length, getD, replicate}
 use Rattle.ground.specs.Choice.{both, pick}
-use Rattle.ground.specs.Lists.{part, same}
+use Rattle.ground.specs.Lists.{part, same, Each}
 use Rattle.splices.specs.Bytes.{num, bytesOf, nums, bytesOfAll, flat, splice}
 
 infixr 6 _⊗_
@@ -97,11 +97,6 @@ ok (many n s) o l = every (λ p. ok s p l) (width s) n o
 ok (perhaps s) o l = pick (eqb (num (part o 1 l)) 1) (ok s (o + 1) l) (same (replicate (suc (width s)) 0) (part o (suc (width s)) l))
 ok (within s) o l = ok s o l
 ok (s ⊗ t) o l = both (ok s o l) (ok t (o + width s) l)
-
--- P holds of each
-abbrev pub Each {ℓ} : {A : Type ℓ} → (A → Type 0) → List A → Type 0
-Each P [] = Unit {0}
-Each P (x ∷ l) = P x × Each P l
 
 -- arrays have their lengths
 abbrev pub Sized : (s : Shape) → Value s → Type 0

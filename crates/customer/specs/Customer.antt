@@ -5,7 +5,7 @@ use mathlib.Core.Bool.{Bool, true}
 use mathlib.Core.List.{List, [], _∷_}
 use lib.Dec.{eqb, ltb, leb}
 use Rattle.ground.specs.Choice.{both, either, fails, between}
-use Rattle.calendar.specs.Dates.{realDate, realTime, earlier}
+use Rattle.calendar.specs.Dates.{realDate, realTime, isReal, isBefore}
 use Rattle.keys.specs.Parity.{oddParity}
 use Rattle.keys.specs.Keys.{nextGeneration}
 use Rattle.customer.specs.Settings.{soundWho}
@@ -21,8 +21,7 @@ soundPrevious current (Held p) =
     both (leb (p .generation) 9)
     (both (eqb (nextGeneration (p .generation)) current)
     (both (oddParity (p .key))
-    (both (realDate (p .first .yymmdd))
-    (both (realDate (p .last .yymmdd)) (fails (earlier (p .last .yymmdd) (p .first .yymmdd)))))))
+    (both (isReal (p .first)) (both (isReal (p .last)) (fails (isBefore (p .last) (p .first)))))))
 
 -- the keys of one kind: generations 0 to 9, odd parity
 unfoldable pub soundKeys : KeyPair → Bool

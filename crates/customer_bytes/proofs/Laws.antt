@@ -4,20 +4,23 @@ use mathlib.Core.Path.{_≡_, refl, sym, ap, _∙_}
 use mathlib.Core.Bool.{Bool, true}
 use mathlib.Core.List.{List, [], _∷_}
 use mathlib.Core.Option.{none, some}
-use Prim.Native.Nat.{ℕ, zero, suc, _+_, _≤_, _<_}
+use Prim.Native.Nat.{ℕ, _+_, _≤_, _<_}
 use native.Mathlib.Nat.{add-zero}
 use native.Mathlib.Omega.{arith}
 use borrow.Author.Tests.{le-leb, lt-leb}
 use lib.Dec.{ltb, leb}
-use lib.ListN.{length, getD, replicate, length-replicate}
+use lib.ListN.{length, replicate, length-replicate}
 use Rattle.ground.specs.Choice.{both, pick}
 use Rattle.ground.specs.Lists.{part, same}
 use Rattle.ground.proofs.Choices.{picks, skips}
+use Rattle.ground.proofs.Bools.{both-true}
+use Rattle.ground.proofs.Parts.{part-all}
+use Rattle.ground.proofs.Lists.{zeros-bytes}
 use Rattle.splices.specs.Bytes.{num}
-use Rattle.splices.proofs.Splice.{AllBytes, part-all}
+use Rattle.splices.proofs.Splice.{AllBytes}
 use Rattle.codec.specs.Layout.{perhaps, Value, scalar, width, enc, dec, ok, Sized}
 use Rattle.codec.specs.Rows.{widths, cells}
-use Rattle.codec.proofs.Laws.{wide, exact, sized, dec-part, last-test}
+use Rattle.codec.proofs.Laws.{wide, exact, sized, dec-part}
 use Rattle.customer.specs.declared.Previous.{Previous}
 use Rattle.customer.specs.declared.Previous.the-variants.{Nothing, Held}
 use Rattle.customer.specs.declared.Customer.{Customer}
@@ -94,10 +97,10 @@ tests at l =
 pub customer-test : (at : ℕ) (l : List ℕ) → tests at l ≡ ok customerShape at l
 unfolding ok both width
 customer-test at l =
-    sym (last-test _
+    sym (both-true _
     ∙ ap (λ (x : Bool). both (ltb (num (part (at + 25 + 2) 1 l)) 2) (both (ltb (num (part (at + 25 + 2 + 1) 1 l)) 2)
     (both (ok (perhaps previousHeld) (at + 25 + 2 + 1 + 1 + 1 + 1 + 8) l) x)))
-    (last-test (ok (perhaps previousHeld) (at + 25 + 2 + 1 + 1 + 1 + 27 + 1 + 8) l)))
+    (both-true (ok (perhaps previousHeld) (at + 25 + 2 + 1 + 1 + 1 + 27 + 1 + 8) l)))
 
 -- ---- where there is room, and where not
 
@@ -132,11 +135,6 @@ module _ (at : ℕ) (l : List ℕ) where
   settings-past h = ap settingsOf (raw-past settingsWidth at l h)
 
 -- ---- the bytes are exact where they pass the layout's test
-
-zeros-bytes : (n k : ℕ) → getD (replicate n 0) k 0 < 256
-zeros-bytes zero k = omega arith
-zeros-bytes (suc n) zero = omega arith
-zeros-bytes (suc n) (suc k) = zeros-bytes n k
 
 customer-exact : (at : ℕ) (l : List ℕ) → AllBytes l → at + recordWidth ≤ length l
     → ok customerShape at l ≡ same (customerBytes (customerFrom (dec customerShape at l))) (part at recordWidth l)

@@ -1,5 +1,5 @@
--- Records on their way: the state after the last character that is no blank is the one that the record without the blanks at its end leads
--- to.
+-- Records on their way: the state after the last character that is no
+-- blank is the one that the record without the blanks at its end leads to.
 -- Assumes nothing.
 use mathlib.Core.Path.{_≡_, refl, sym, ap, _∙_}
 use mathlib.Core.Bool.{Bool, true, false}

@@ -13,8 +13,8 @@ use lib.ListN.{length, getD, drop, drop-of-length-le}
 use lib.Seq.{drop-cons}
 use Rattle.ground.specs.Choice.{both, pick}
 use Rattle.ground.proofs.Choices.{picks, skips}
+use Rattle.ground.proofs.Table.{each}
 use Rattle.text.specs.Characters.{blank, internal}
-use Rattle.text.proofs.Lists.{each}
 use Rattle.digest.specs.Running.{begun, pushed, fedByte, fedBytes, closed, tookByte, tookBytes}
 use Rattle.digest.specs.declared.State.{State}
 use Rattle.digest.specs.declared.Running.{Running}

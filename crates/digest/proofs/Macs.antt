@@ -14,8 +14,8 @@ use lib.ListN.{length, take, replicate, length-append}
 use lib.Pow.{pow-add}
 use lib.Seq.{take-at, drop-at, take-append-add, append-snoc}
 use Rattle.ground.proofs.Choices.{picks, skips, between-true}
-use Rattle.ground.proofs.Lists.{take-zeros}
 use Rattle.ground.proofs.Bools.{outcome, picked}
+use Rattle.ground.proofs.Parts.{take-zeros}
 use Rattle.text.specs.Characters.{small, fieldCharacter, internal}
 use Rattle.text.proofs.Laws.{field-lt}
 use Rattle.des.proofs.Laws.{Each, none, more}

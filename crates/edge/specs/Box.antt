@@ -1,5 +1,5 @@
--- A call of include/lentilpot.h as data: what a box hands in but the table, the number it gets, and the later contents of each buffer that
--- it lends.
+-- A call of include/lentilpot.h as data: what a box hands in but the table,
+-- the number it gets, and the later contents of each buffer that it lends.
 -- Assumes nothing.
 use Prim.Native.Nat.{ℕ, _<_, _^_}
 use mathlib.Core.Path.{_≡_}

@@ -1,6 +1,6 @@
 -- Laws of tests alone: what follows from a test that holds or fails, and how code that turns a test round or stops early says the same.
 -- Assumes nothing.
-use mathlib.Core.Path.{_≡_, refl, sym, ap, _∙_}
+use mathlib.Core.Path.{_≡_, refl, sym, ap, subst, _∙_}
 use mathlib.Core.Bool.{Bool, true, false, not}
 use mathlib.Core.Logic.{_⊎_, inl, inr}
 use Prim.Native.Nat.{ℕ, _≤_, _<_}
@@ -8,7 +8,7 @@ use native.Mathlib.Omega.{arith}
 use borrow.Author.Tests.{eq-eqb, ne-eqb, not-true, not-false}
 use lib.Dec.{T, eqb}
 use Rattle.ground.specs.Choice.{both, either, fails, pick, one}
-use Rattle.ground.proofs.Choices.{left, right, join, fails-left, fails-right, decides, either-left, either-decides}
+use Rattle.ground.proofs.Choices.{left, right, join, fails-left, fails-right, decides, either-left, either-decides, picks, skips}
 
 -- ---- a test that holds, fails, or can do neither
 
@@ -52,6 +52,14 @@ picked P false a b p q = q refl
 pub picked-each : {A : Type 0} (P : A → Type 0) (t : Bool) (a b : A) → P a → P b → P (pick t a b)
 picked-each P t a b p q = picked P t a b (λ e. p) (λ e. q)
 
+-- the same, where a call's answer r is the test
+module _ {A : Type 0} (P : A → Type 0) (x y : A) where
+  pub chosen : (t r : Bool) → r ≡ t → r ≡ true → P x → P (pick t x y)
+  chosen t r e h p = subst P (sym (picks t x y (sym e ∙ h))) p
+
+  pub skipped : (t r : Bool) → r ≡ t → r ≡ false → P y → P (pick t x y)
+  skipped t r e h p = subst P (sym (skips t x y (sym e ∙ h))) p
+
 -- ---- a test turned round
 
 pub fails-of : (t : Bool) → t ≡ false → fails t ≡ true
@@ -73,6 +81,11 @@ said e p = sym e ∙ p
 
 pub turned : {r a : Bool} → r ≡ a → not r ≡ fails a
 turned {r} e = not-fails r ∙ ap fails e
+
+pub turned-pick : (r a : Bool) → r ≡ a → not r ≡ pick a false true
+unfolding pick fails
+turned-pick r true e = turned e
+turned-pick r false e = turned e
 
 pub unsaid : {r a v : Bool} → r ≡ a → not r ≡ v → fails a ≡ v
 unsaid e p = sym (turned e) ∙ p
@@ -143,6 +156,13 @@ pub both-assoc : (a b c : Bool) → both (both a b) c ≡ both a (both b c)
 unfolding both
 both-assoc true b c = refl
 both-assoc false b c = refl
+
+pub both-turn : (a b c d : Bool) → both (both a b) (both c d) ≡ both a (both c (both b d))
+unfolding both
+both-turn false b c d = refl
+both-turn true true c d = refl
+both-turn true false true d = refl
+both-turn true false false d = refl
 
 -- ---- a test as a number
 

@@ -1,21 +1,24 @@
--- Laws of lists of numbers: members, tests of each element, parts, and one list laid over another.
+-- Laws of lists: members, tests and facts of each element, lists told apart, and one list laid over another.
 -- Assumes nothing.
 use mathlib.Core.Path.{_≡_, refl, sym, ap, _∙_}
 use mathlib.Core.Bool.{Bool, true, false}
-use mathlib.Core.List.{List, [], _∷_, _++_, append-nil, append-assoc}
+use mathlib.Core.List.{List, [], _∷_, _++_, append-nil}
 use mathlib.Core.Logic.{⊎-elim}
-use Prim.Native.Nat.{ℕ, zero, suc, _+_, _≤_, _<_, min}
-use native.Mathlib.Nat.{zero-min, min-zero, suc-min-suc, not-suc-le-zero, le-of-suc-le-suc}
+use Prim.Native.Nat.{ℕ, zero, suc, _+_, _≤_, _<_}
+use native.Mathlib.Nat.{not-suc-le-zero, le-of-suc-le-suc, le-refl}
 use native.Mathlib.Numerals.{add-one}
 use native.Mathlib.Omega.{arith}
+use borrow.Author.Count.{below-more}
 use borrow.Author.Tests.{eq-eqb, eqb-true, ltb-true}
 use lib.Dec.{eqb, ltb}
 use lib.ListN.{length, take, drop, getD, set, replicate, length-append, length-take, length-drop, drop-of-length-le}
-use lib.Seq.{drop-cons, getD-take, take-all, take-add, drop-drop, length-take-le}
+use lib.Seq.{drop-cons, getD-take, take-all, length-take-le, getD-set-same, getD-set-other}
 use Rattle.ground.specs.Choice.{both, either, pick}
-use Rattle.ground.specs.Lists.{all, member, same, part, overlay}
-use Rattle.ground.proofs.Choices.{left, right, join, either-left, either-right, either-cases, same-eq}
-use Rattle.ground.proofs.Bools.{refuted, both-assoc}
+use Rattle.ground.specs.Lists.{all, member, same, overlay, Each}
+use Rattle.ground.proofs.Choices.{left, right, join, fails-left, decides, either-left, either-right, either-cases}
+use Rattle.ground.proofs.Choices.{all-cons, same-eq, eq-same}
+use Rattle.ground.proofs.Bools.{refuted, clash, decided, both-assoc}
+use Rattle.ground.proofs.Numbers.{eqb-turned}
 
 -- ---- members
 
@@ -59,6 +62,14 @@ pub member-next : (x n : ℕ) (l : List ℕ) (i : ℕ) → i < n → n ≤ lengt
     → member x (drop i (take n l)) ≡ either (eqb (getD l i 0) x) (member x (drop (i + 1) (take n l)))
 member-next x n l i h k = ap (member x) (held-next n l i h k) ∙ member-cons x _ _
 
+-- one of two lists, the one without y or the one with it
+pub member-pick : (s y : ℕ) (l : List ℕ) (b : Bool) → (y ≡ s → b ≡ false) → either (eqb y s) (member s l) ≡ true
+    → member s (pick b l (y ∷ l)) ≡ true
+unfolding pick member
+member-pick s y l true f e =
+    ⊎-elim {C = member s l ≡ true} (λ h. absurd (clash true refl (f (eqb-true y s h)))) (λ h. h) (either-cases (eqb y s) (member s l) e)
+member-pick s y l false f e = e
+
 -- ---- a test of each element
 
 pub all-member : (f : ℕ → Bool) (l : List ℕ) (x : ℕ) → all f l ≡ true → member x l ≡ true → f x ≡ true
@@ -86,6 +97,49 @@ unfolding all
 all-snoc f [] x p q = join _ _ q refl
 all-snoc f (y ∷ l) x p q = join _ _ (left _ _ p) (all-snoc f l x (right _ _ p) q)
 
+-- a list of one
+pub all-one : (b c : ℕ) → all (eqb b) (c ∷ []) ≡ eqb c b
+unfolding all both
+all-one b c = go (eqb b c) refl ∙ eqb-turned b c
+  where
+    go : (t : Bool) → eqb b c ≡ t → both t true ≡ eqb b c
+    go true e = sym e
+    go false e = sym e
+
+module _ (f : ℕ → Bool) where
+  pub all-take : (n : ℕ) (l : List ℕ) → all f l ≡ true → all f (take n l) ≡ true
+  unfolding all
+  all-take zero l p = refl
+  all-take (suc n) [] p = refl
+  all-take (suc n) (x ∷ l) p = join _ _ (left _ _ p) (all-take n l (right _ _ p))
+
+  pub all-zeros : (n : ℕ) → f 0 ≡ true → all f (replicate n 0) ≡ true
+  unfolding all
+  all-zeros zero p = refl
+  all-zeros (suc n) p = join _ _ p (all-zeros n p)
+
+  pub all-pick : (b : Bool) (x : ℕ) (l : List ℕ) → f x ≡ true → all f l ≡ true → all f (pick b l (x ∷ l)) ≡ true
+  unfolding all pick
+  all-pick true x l p q = q
+  all-pick false x l p q = join _ _ p q
+
+-- a loop that tests each
+module _ (f : ℕ → Bool) (l : List ℕ) (i : ℕ) where
+  here : i < length l → all f (drop i l) ≡ both (f (getD l i 0)) (all f (drop (i + 1) l))
+  here h = rw (add-one i, drop-cons l i 0 h) (all-cons f (getD l i 0) (drop (suc i) l))
+
+  -- where the character at i passes, the rest decides
+  pub all-more : i < length l → f (getD l i 0) ≡ true → all f l ≡ all f (drop i l) → all f l ≡ all f (drop (i + 1) l)
+  all-more h p e = e ∙ here h ∙ decides (f (getD l i 0)) (all f (drop (i + 1) l)) p
+
+  -- where it fails, all fail
+  pub all-stop : i < length l → f (getD l i 0) ≡ false → all f l ≡ all f (drop i l) → false ≡ all f l
+  all-stop h p e = sym (e ∙ here h ∙ fails-left (f (getD l i 0)) (all f (drop (i + 1) l)) p)
+
+  pub all-end : length l ≤ i → all f l ≡ all f (drop i l) → true ≡ all f l
+  unfolding all
+  all-end h e = sym (e ∙ ap (all f) (drop-of-length-le l h))
+
 -- what holds of each element, and of 0, holds at every place
 pub each-below : (f : ℕ → Bool) (n : ℕ) → ((x : ℕ) → f x ≡ true → x < n) → 0 < n → (l : List ℕ) → all f l ≡ true
     → (k : ℕ) → getD l k 0 < n
@@ -94,7 +148,53 @@ each-below f n h z [] e k = z
 each-below f n h z (x ∷ l) e zero = h x (left _ _ e)
 each-below f n h z (x ∷ l) e (suc k) = each-below f n h z l (right _ _ e) k
 
--- ---- lists that are told apart
+-- ---- a fact of each element
+
+pub each {ℓ} : {A : Type ℓ} {P Q : A → Type 0} → ((x : A) → P x → Q x) → (l : List A) → Each P l → Each Q l
+each f [] e = tt
+each f (x ∷ l) e = (f x (e .0), each f l (e .1))
+
+-- what holds at every place holds of each
+pub each-at : (P : ℕ → Type 0) (l : List ℕ) → ((k : ℕ) → k < length l → P (getD l k 0)) → Each P l
+each-at P [] h = tt
+each-at P (x ∷ l) h = (h 0 (omega arith), each-at P l (λ k b. h (suc k) (omega arith)))
+
+-- a loop that fills an array from the front
+pub filled-more : (f : ℕ → ℕ) (l : List ℕ) (i v : ℕ) → i < length l → v ≡ f i → ((k : ℕ) → k < i → getD l k 0 ≡ f k) → (k : ℕ)
+    → k < i + 1 → getD (set l i v) k 0 ≡ f k
+filled-more f l i v h e all =
+    below-more (λ k. getD (set l i v) k 0 ≡ f k) i
+    (λ k b. getD-set-other l i k v 0 (λ q. omega arith) ∙ all k b)
+    (getD-set-same l i v 0 h ∙ e)
+
+pub zeros-bytes : (n k : ℕ) → getD (replicate n 0) k 0 < 256
+zeros-bytes zero k = omega arith
+zeros-bytes (suc n) zero = omega arith
+zeros-bytes (suc n) (suc k) = zeros-bytes n k
+
+-- ---- lists that are equal, and lists that are told apart
+
+pub same-append : (a b c d : List ℕ) → length a ≡ length c → same (a ++ b) (c ++ d) ≡ both (same a c) (same b d)
+unfolding same both
+same-append [] b [] d e = refl
+same-append [] b (y ∷ c) d e = absurd (omega arith)
+same-append (x ∷ a) b [] d e = absurd (omega arith)
+same-append (x ∷ a) b (y ∷ c) d e =
+    ap (both (eqb x y)) (same-append a b c d (omega arith)) ∙ sym (both-assoc (eqb x y) (same a c) (same b d))
+
+-- a test that decides whether two lists are equal
+pub same-decided : (t : Bool) (a b : List ℕ) → (t ≡ true → a ≡ b) → (a ≡ b → t ≡ true) → t ≡ same a b
+same-decided t a b f g = decided t (same a b) (λ e. eq-same a b (f e)) (λ e. g (same-eq a b e))
+
+pub same-turned : (a b : List ℕ) → same a b ≡ same b a
+same-turned a b = same-decided (same a b) b a (λ e. sym (same-eq a b e)) (λ e. eq-same a b (sym e))
+
+-- a list of one
+pub one-is : {A : Type 0} (x y : A) → x ∷ [] ≡ y ∷ [] → x ≡ y
+one-is x y e = cc
+
+pub one-not-none : {A : Type 0} (l : List A) (x : A) → l ≡ [] → l ≡ x ∷ [] → ⊥
+one-not-none l x e k = let z : _≡_ {A = ℕ} 0 1 = cc in omega arith
 
 pub differ-lists : (a b : List ℕ) → (a ≡ b → ⊥) → false ≡ same a b
 differ-lists a b n = sym (refuted (same a b) (λ e. n (same-eq a b e)))
@@ -105,39 +205,9 @@ differ-length a b n = differ-lists a b (λ e. n (ap length e))
 pub differ-at : (a b : List ℕ) (i : ℕ) → (getD a i 0 ≡ getD b i 0 → ⊥) → false ≡ same a b
 differ-at a b i n = differ-lists a b (λ e. n (ap (λ (l : List ℕ). getD l i 0) e))
 
--- ---- the first elements, and parts
+-- ---- one list laid over another
 
-pub take-none : (k : ℕ) → _≡_ {A = List ℕ} (take k []) []
-take-none zero = refl
-take-none (suc k) = refl
-
-pub take-least : (m n : ℕ) (l : List ℕ) → take m (take n l) ≡ take (min m n) l
-take-least zero n l = rw zero-min
-take-least (suc m) zero l = rw min-zero
-take-least (suc m) (suc n) [] = rw suc-min-suc
-take-least (suc m) (suc n) (x ∷ l) = rw suc-min-suc (ap (λ (r : List ℕ). x ∷ r) (take-least m n l))
-
-pub take-kept : (n : ℕ) (l : List ℕ) → take (length (take n l)) l ≡ take n l
-take-kept zero l = refl
-take-kept (suc n) [] = refl
-take-kept (suc n) (x ∷ l) = ap (λ (r : List ℕ). x ∷ r) (take-kept n l)
-
--- of a list that is no longer than i, the first i are the first k
-pub take-both : (l : List ℕ) (i k : ℕ) → length l ≤ i → i ≤ k → take i l ≡ take k l
-take-both l i k h m = take-all i l h ∙ sym (take-all k l (omega arith))
-
-pub take-zeros : (k n : ℕ) → k ≤ n → take {A = ℕ} k (replicate n 0) ≡ replicate k 0
-take-zeros zero n h = refl
-take-zeros (suc k) zero h = absurd (not-suc-le-zero h)
-take-zeros (suc k) (suc n) h = ap (λ (l : List ℕ). 0 ∷ l) (take-zeros k n (le-of-suc-le-suc h))
-
-pub drop-take : (m n k : ℕ) (l : List ℕ) → k ≡ m + n → drop m (take k l) ≡ take n (drop m l)
-drop-take zero n k l e = let z : k ≡ n = omega arith in ap (λ (i : ℕ). take i l) z
-drop-take (suc m) n zero l e = absurd (omega arith)
-drop-take (suc m) n (suc k) [] e = sym (take-none n)
-drop-take (suc m) n (suc k) (x ∷ l) e = drop-take m n k l (omega arith)
-
-pub copy-suc : (i : ℕ) (s d : List ℕ) → i < length s → i < length d
+copy-suc : (i : ℕ) (s d : List ℕ) → i < length s → i < length d
     → set (take i s ++ drop i d) i (getD s i 0) ≡ take (suc i) s ++ drop (suc i) d
 copy-suc i [] d p q = absurd (not-suc-le-zero p)
 copy-suc i (x ∷ s) [] p q = absurd (not-suc-le-zero q)
@@ -145,24 +215,23 @@ copy-suc zero (x ∷ s) (y ∷ d) p q = refl
 copy-suc (suc i) (x ∷ s) (y ∷ d) p q =
     ap (λ (l : List ℕ). x ∷ l) (copy-suc i s d (le-of-suc-le-suc p) (le-of-suc-le-suc q))
 
-pub part-short : (at w : ℕ) (l : List ℕ) → length (part at w l) ≤ w
-unfolding part
-part-short at w l = rw length-take (omega arith)
+module _ (i : ℕ) (s d : List ℕ) where
+  pub copy-more : i < length s → i < length d → set (take i s ++ drop i d) i (getD s i 0) ≡ take (i + 1) s ++ drop (i + 1) d
+  copy-more p q = rw (add-one i) (copy-suc i s d p q)
 
-pub part-full : (at w : ℕ) (l : List ℕ) → at + w ≤ length l → length (part at w l) ≡ w
-unfolding part
-part-full at w l h = length-take-le w (drop at l) (omega (arith, length-drop at l))
+  -- all of the source is copied
+  pub copy-all : i ≡ length s → i ≤ length d → take i s ++ drop i d ≡ overlay s d
+  unfolding overlay
+  copy-all p q =
+      rw (p) (ap (λ (l : List ℕ). l ++ drop (length s) d) (take-all (length s) s (le-refl (length s))
+      ∙ sym (take-all (length d) s (omega arith))))
 
--- two parts that adjoin
-pub parted : (at a b : ℕ) (l : List ℕ) → part at (a + b) l ≡ part at a l ++ part (at + a) b l
-unfolding part
-parted at a b l = take-add a b (drop at l) ∙ ap (λ (r : List ℕ). take a (drop at l) ++ take b r) (drop-drop a at l)
-
-pub part-join : (x : List ℕ) (at n m : ℕ) (l : List ℕ) → x ++ part at n l ++ part (at + n) m l ≡ x ++ part at (n + m) l
-part-join x at n m l =
-    append-assoc x (part at n l) (part (at + n) m l) ∙ ap (λ (r : List ℕ). x ++ r) (sym (parted at n m l))
-
--- ---- one list laid over another
+  -- all of the room is filled
+  pub copy-full : i ≡ length d → i ≤ length s → take i s ++ drop i d ≡ overlay s d
+  unfolding overlay
+  copy-full p q =
+      rw (p) (ap (λ (l : List ℕ). take (length d) s ++ l) (drop-of-length-le d (le-refl (length d))
+      ∙ sym (drop-of-length-le d {i = length s} (omega arith))))
 
 pub overlay-length : (v l : List ℕ) → length (overlay v l) ≡ length l
 unfolding overlay
@@ -179,3 +248,9 @@ pub pick-length : (t : Bool) (x y : List ℕ) (n : ℕ) → length x ≡ n → l
 unfolding pick
 pick-length true x y n p q = p
 pick-length false x y n p q = q
+
+pub length-pick : (b : Bool) (s k : ℕ) (ss ks : List ℕ) → length ss ≡ length ks
+    → length (pick b ss (s ∷ ss)) ≡ length (pick b ks (k ∷ ks))
+unfolding pick
+length-pick true s k ss ks e = e
+length-pick false s k ss ks e = ap suc e

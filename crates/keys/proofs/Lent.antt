@@ -1,5 +1,5 @@
--- A local that holds a struct of plain data, lent by `&mut` for a call, and back: `Denote/Lend.antt`'s `lends-ref` and `ref-back`, at the
--- local's cell.
+-- A local that holds a struct of plain data, lent by `&mut` for a call, and back:
+-- `Denote/Lend.antt`'s `lends-ref` and `ref-back`, at the local's cell.
 --     lends-local      h lies in the local  ⊢ ⇛ ∃ γ. own (the `&κ mut T` to it, at h) ∗ the lender's part
 --     local-back       [†κ] ∗ the lender's part ∗ res γ h′  ⊢ ⇛ (h′ lies in the local, and its fields' facts hold)
 -- Assumes `Given`.

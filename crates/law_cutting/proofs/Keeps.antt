@@ -1,5 +1,5 @@
--- What a step keeps, in session, table and place: each record's end is one of a handful of ends, and what each of two ends keeps, the
--- choice keeps.
+-- What a step keeps, in session, table and place:
+-- each record's end is one of a handful of ends, and what each of two ends keeps, the choice keeps.
 -- Assumes nothing.
 use Prim.Native.Nat.{ℕ}
 use mathlib.Core.Path.{_≡_, refl, sym, ap, _∙_}

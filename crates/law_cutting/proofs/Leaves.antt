@@ -1,5 +1,5 @@
--- What a verdict leaves is still a table, of the same day: it writes a sound table over the one before, and changes customers and seed
--- alone.
+-- What a verdict leaves is still a table, of the same day:
+-- it writes a sound table over the one before, and changes customers and seed alone.
 -- Assumes nothing.
 use Prim.Native.Nat.{ℕ, _<_, _^_}
 use mathlib.Core.Path.{_≡_, refl, ap, _∙_}

@@ -1,5 +1,5 @@
--- The words of a digest's state stay below 2 ^ 64 whatever runs through it: the block and the count are taken below it, and a cipher's
--- answer is.
+-- The words of a digest's state stay below 2 ^ 64 whatever runs through it:
+-- the block and the count are taken below it, and a cipher's answer is.
 -- Assumes nothing.
 use Prim.Native.Nat.{ℕ, _<_, _^_}
 use mathlib.Core.List.{List, [], _∷_}

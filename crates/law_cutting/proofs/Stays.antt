@@ -9,8 +9,8 @@ use borrow.Author.Tests.{ltb-true, leb-false}
 use lib.Dec.{ltb, leb}
 use lib.ListN.{length, length-set, length-replicate}
 use Rattle.ground.specs.Choice.{pick}
-use Rattle.ground.proofs.Lists.{part-full}
 use Rattle.ground.proofs.Bools.{picked}
+use Rattle.ground.proofs.Parts.{part-length}
 use Rattle.des.proofs.Inverse.{enciphered-lt, deciphered-lt}
 use Rattle.changeover.specs.declared.Key.{Key}
 use Rattle.changeover.specs.declared.Key.the-variants.{Missing, Is}
@@ -142,7 +142,7 @@ once-fits t m =
 -- identity and qualifier are 25 characters
 pub sender-length : (m : List ℕ) → length m ≡ 161 → length (senderOf m) ≡ 25
 unfolding senderOf offsetIn pick
-sender-length m l = part-full 60 25 m (omega arith)
+sender-length m l = part-length m 60 25 (omega arith)
 
 -- the count of keys made is carried round
 outcome-made : (f : Fault) (g : Granted) (made : ℕ) → made < 2 ^ 64 → outcomeOf f g made .made < 2 ^ 64

@@ -1,5 +1,5 @@
--- The verdict is the first failing check's, or what acceptance grants where none fails; every granted code is K and every check's code is
--- E.
+-- The verdict is the first failing check's, or what acceptance grants where none fails;
+-- every granted code is K and every check's code is E.
 -- Assumes nothing.
 use Prim.Native.Nat.{ℕ}
 use mathlib.Core.Path.{_≡_, refl, sym, ap, _∙_}

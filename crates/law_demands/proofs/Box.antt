@@ -1,5 +1,5 @@
--- At the edge the statements are those of the calls behind: a box's calls have their arguments, answers and replies, and its sessions come
--- back from bytes.
+-- At the edge the statements are those of the calls behind:
+-- a box's calls have their arguments, answers and replies, and its sessions come back from bytes.
 -- Assumes nothing.
 use Prim.Native.Nat.{ℕ}
 use mathlib.Core.Path.{_≡_, refl, sym, ap, _∙_, subst}

@@ -1,5 +1,5 @@
--- A run over an opened file shows what the machine tells, which is the whole-file answer; and an opened file is in a good state, from which
--- a run exists.
+-- A run over an opened file shows what the machine tells, which is the whole-file answer;
+-- and an opened file is in a good state, from which a run exists.
 -- Assumes nothing.
 use native.Mathlib.Nat.{zero-add}
 use Rattle.calls.specs.Reading.{openingGives, openingLeaves}

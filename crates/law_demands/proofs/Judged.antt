@@ -4,9 +4,9 @@ use Prim.Native.Nat.{ℕ, _≤_}
 use mathlib.Core.Path.{_≡_, refl, sym, ap, _∙_, subst}
 use mathlib.Core.List.{List, [], _∷_}
 use mathlib.Core.Bool.{Bool, true, false, false≢true}
-use native.Mathlib.Omega.{arith}
 use lib.ListN.{length}
 use Rattle.ground.specs.Lists.{member}
+use Rattle.ground.proofs.Lists.{one-is, one-not-none}
 use Rattle.table.specs.Decode.{tableOf, isTable}
 use Rattle.checks.specs.Checks.{esiChecks, frameChecks}
 use Rattle.message.specs.declared.Collected.{Collected}
@@ -121,12 +121,6 @@ calls-judged = (read-shows, end-shows)
 
 -- ---- a reply with K
 
-head-is : (r q : List ℕ) → _≡_ {A = List (List ℕ)} (r ∷ []) (q ∷ []) → r ≡ q
-head-is r q e = cc
-
-none-shown : (l : List (List ℕ)) (r : List ℕ) → l ≡ [] → l ≡ r ∷ [] → ⊥
-none-shown l r e k = let z : _≡_ {A = ℕ} 0 1 = cc in omega arith
-
 -- a reply with K has a code that accepts
 k-accepts : (a : Answering) → isK (replyOf a) ≡ true → isAccepted (a .code) ≡ true
 k-accepts a k = by (isAccepted (a .code)) refl
@@ -137,14 +131,14 @@ k-accepts a k = by (isAccepted (a .code)) refl
 
 k-shown : (o : Opening) (made : ℕ) (b : List ℕ) (d : Done) (r : List ℕ) → Shows o made b d → shownBy d ≡ r ∷ [] → isK r ≡ true
     → Accepts o made b r (d .table)
-k-shown o made b d r (shows-nothing e t) q k = absurd (none-shown (shownBy d) r e q)
+k-shown o made b d r (shows-nothing e t) q k = absurd (one-not-none (shownBy d) r e q)
 k-shown o made b d r (shows-bare pte code field m e f t) q k =
-    absurd (false≢true (sym f ∙ ap isK (head-is _ r (sym e ∙ q)) ∙ k))
+    absurd (false≢true (sym f ∙ ap isK (one-is _ r (sym e ∙ q)) ∙ k))
 k-shown o made b d r (shows-esi m t e v) q k =
-    let p = head-is r _ (sym q ∙ e) in
+    let p = one-is r _ (sym q ∙ e) in
     accepts-esi m (v .accepted (k-accepts (esiReply o made b m (d .table)) (sym (ap isK p) ∙ k))) p t
 k-shown o made b d r (shows-frame f t e v) q k =
-    let p = head-is r _ (sym q ∙ e) in
+    let p = one-is r _ (sym q ∙ e) in
     accepts-frame f (v .accepted (k-accepts (frameReply o made b f (d .table)) (sym (ap isK p) ∙ k))) p t
 
 read-k : (s : Session) (b input room r : List ℕ) → Fits s → shownBy (readDone s b input room) ≡ r ∷ [] → isK r ≡ true
@@ -152,14 +146,14 @@ read-k : (s : Session) (b input room r : List ℕ) → Fits s → shownBy (readD
 unfolding refusalOf
 read-k s b input room r f q k =
     by-refusal b (reading s input room) (λ z. k-shown _ _ b _ r (read-shows s b input room f z) q k)
-    (λ z. absurd (none-shown _ r (read-refused s b input room z .1) q))
+    (λ z. absurd (one-not-none _ r (read-refused s b input room z .1) q))
 
 end-k : (s : Session) (b room r : List ℕ) → Fits s → shownBy (endDone s b room) ≡ r ∷ [] → isK r ≡ true
     → Accepts (s .opening) (s .made) b r (endDone s b room .table)
 unfolding refusalOf
 end-k s b room r f q k =
     by-refusal b (ending s room) (λ z. k-shown _ _ b _ r (end-shows s b room f z) q k)
-    (λ z. absurd (none-shown _ r (end-refused s b room z .1) q))
+    (λ z. absurd (one-not-none _ r (end-refused s b room z .1) q))
 
 pub k-judged : KJudged
 k-judged = (read-k, end-k)

@@ -4,12 +4,11 @@ use Prim.Native.Nat.{ℕ, _≤_}
 use mathlib.Core.Path.{_≡_, refl, sym, ap, ap₂, _∙_, subst}
 use mathlib.Core.List.{List, [], _∷_}
 use mathlib.Core.Bool.{Bool, true, false}
-use native.Mathlib.Omega.{arith}
 use borrow.Author.Tests.{le-ltb, ne-eqb}
 use lib.ListN.{length, drop}
 use Rattle.ground.specs.Choice.{pick}
 use Rattle.ground.proofs.Choices.{picks, skips}
-use Rattle.ground.proofs.Lists.{overlay-length}
+use Rattle.ground.proofs.Lists.{overlay-length, one-not-none}
 use Rattle.ground.proofs.Bools.{picked, refuted}
 use Rattle.table.specs.Decode.{tableOf}
 use Rattle.refusals.specs.Refusals.{refusal, lowest, noTable}
@@ -250,13 +249,10 @@ room-unseen = (read-unseen, end-unseen)
 
 -- ---- a read that shows no reply
 
-not-none : (l : List (List ℕ)) (r : List ℕ) → l ≡ r ∷ [] → l ≡ [] → ⊥
-not-none l r e k = let z : _≡_ {A = ℕ} 0 1 = cc in omega arith
-
 none-given : (x : Turn) (u : Session) (n : ℕ) (finished : Bool) (room : List ℕ) → 317 ≤ length room → Long (x .out .reply .answer)
     → shownBy (servedBy x u n finished room) ≡ [] → x .out .reply .given ≡ false
 none-given x u n finished room h l e =
-    refuted _ (λ g. not-none (shownBy (servedBy x u n finished room)) _ (shows-reply x u n finished room g (sized l) h) e)
+    refuted _ (λ g. one-not-none (shownBy (servedBy x u n finished room)) _ e (shows-reply x u n finished room g (sized l) h))
 
 pub settles-nothing : SettlesNothing
 unfolding readServed servedBy

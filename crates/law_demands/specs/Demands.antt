@@ -1,16 +1,13 @@
 -- What a bank can hold us to: the user's three demands as statements, each in plain words above it.
--- What must be believed is what these statements speak of, read beside document 01: messages and their fields (message/specs), the lists of
--- checks (checks/specs), the verdict on one message (verdict/specs), notices and replies (notice, reply, answers), the table and its bytes
--- (table, customer, customer_bytes), the four calls that keep it (table_calls/specs), what refuses the others and what a call is
--- (calls/specs:
--- `refusalOf`, `leftBy`, `replyBy`), the whole-file answer (whole_file/specs), what a caller does (law_protocol/specs), and this file. What
--- only
--- names what the code computes is the session with its machine (session/specs) and what a read and an end do by it (`readDone`, `endDone`):
--- of
--- these the statements say all that a caller sees. The calls promise the records of table_calls/specs/Promises.antt and of
--- calls/specs/Promises.antt, of which the statements of the last part speak.
--- The last part says the same of the calls of include/lentilpot.h, in the numbers and bytes that a box in C or Rust has
--- (edge/specs/Box.antt).
+-- What must be believed is what these statements speak of, read beside document 01: messages and their fields (message/specs),
+-- the lists of checks (checks/specs), the verdict on one message (verdict/specs), notices and replies (notice, reply, answers),
+-- the table and its bytes (table, customer, customer_bytes), the four calls that keep it (table_calls/specs), what refuses the others
+-- and what a call is (calls/specs: `refusalOf`, `leftBy`, `replyBy`), the whole-file answer (whole_file/specs), what a caller does
+-- (law_protocol/specs), and this file. What only names what the code computes is the session with its machine (session/specs) and
+-- what a read and an end do by it (`readDone`, `endDone`): of these the statements say all that a caller sees. The calls promise
+-- the records of table_calls/specs/Promises.antt and of calls/specs/Promises.antt, of which the statements of the last part speak.
+-- The last part says the same of the calls of include/lentilpot.h,
+-- in the numbers and bytes that a box in C or Rust has (edge/specs/Box.antt).
 -- Assumes nothing.
 use Prim.Native.Nat.{ℕ, _+_, _<_, _≤_}
 use mathlib.Core.Path.{_≡_}
@@ -226,9 +223,8 @@ KJudged =
     ((s : Session) (b room r : List ℕ) → Fits s → shownBy (endDone s b room) ≡ r ∷ [] → isK r ≡ true
     → Accepts (s .opening) (s .made) b r (endDone s b room .table))
 
--- No stamp twice: over every sequence of calls that begins with a set-up and has no other served set-up, with any arguments and any
--- sessions,
--- forged ones too, no two replies with K of the whole sequence agree in fields 8 (all 25 characters) and 12.
+-- No stamp twice: over every sequence of calls that begins with a set-up and has no other served set-up, with any arguments
+-- and any sessions, forged ones too, no two replies with K of the whole sequence agree in fields 8 (all 25 characters) and 12.
 abbrev pub NoStampTwice : Type 0
 NoStampTwice = (b : List ℕ) (s : Setting) (holidays : List ℕ) (cs : List Call) → refusalOf b (settingUp s holidays) ≡ 0
     → AllTyped (settingUp s holidays ∷ cs)
@@ -259,8 +255,8 @@ pub record Stays (t u : Table) (named : List ℕ → Bool) : Type 0 where
   pub maker-key : u .settings .maker .key ≡ t .settings .maker .key
   pub holidays : u .holidays ≡ t .holidays
 
--- After any served call but a set-up every customer's record but the named one is the same, in place and content; settings but V, and the
--- holidays, never change.
+-- After any served call but a set-up every customer's record but the named one is the same,
+-- in place and content; settings but V, and the holidays, never change.
 abbrev pub OthersStay : Type 0
 OthersStay = (b : List ℕ) (c : Call) → Typed c → isSettingUp c ≡ false → refusalOf b c ≡ 0
     → Stays (tableOf b) (tableOf (leftBy b c)) (names b c)
@@ -304,8 +300,8 @@ SessionsInRange =
 
 -- ---- DEMAND 3: any file, any table, any way of cutting the file into reads
 
--- For every run of the protocol from an opened file the replies in order, their settling places and the table at the end are those of the
--- whole-file answer.
+-- For every run of the protocol from an opened file the replies in order,
+-- their settling places and the table at the end are those of the whole-file answer.
 abbrev pub AnyCuts : Type 0
 AnyCuts = (b : List ℕ) (o : Opening) (file : List ℕ) (ks : List Lent) (rooms : List (List ℕ)) (l : Saw) → openingAnswer b o ≡ 0
     → Runs ks rooms 0 (openingGives b o .session) (openingLeaves b o) file l
@@ -336,8 +332,8 @@ RunsExist = (b : List ℕ) (o : Opening) (file : List ℕ) (sizes : ℕ → ℕ)
     → (n : ℕ) × (m : ℕ) × (l : Saw)
     × Runs (readsFrom n 0 sizes rooms) (roomsFrom m n rooms) 0 (openingGives b o .session) (openingLeaves b o) file l
 
--- ---- No second answer: two (answer, buffers) that meet a call's contract, the record that the public function promises, at the same
--- arguments are equal
+-- ---- No second answer: two (answer, buffers) that meet a call's contract,
+-- the record that the public function promises, at the same arguments are equal
 
 abbrev pub NoSecondKeeping : Type 0
 NoSecondKeeping = (b : List ℕ) (c : Call) (x y : ℕ) (t u : List ℕ) → MeetsKeeping (refusalOf b c) (leftBy b c) x t
@@ -405,9 +401,8 @@ BoxAnyCuts = (b session : List ℕ) (today time kind clock : ℕ) (file : List �
       table = written b (wholeFile (broughtBy today time kind clock) (withDay (tableOf b) today) file .standing .table);
     }
 
--- And such a run exists and finishes, for every file, every sequence of positive read sizes and every sequence of reply rooms of at least
--- 317
--- bytes.
+-- And such a run exists and finishes, for every file,
+-- every sequence of positive read sizes and every sequence of reply rooms of at least 317 bytes.
 abbrev pub BoxRunsExist : Type 0
 BoxRunsExist = (b session : List ℕ) (today time kind clock : ℕ) (file : List ℕ) (sizes : ℕ → ℕ) (rooms : ℕ → List ℕ)
     → Words (lpOpen session today time kind clock) → boxAnswer b (lpOpen session today time kind clock) ≡ 0
@@ -418,8 +413,8 @@ BoxRunsExist = (b session : List ℕ) (today time kind clock : ℕ) (file : List
     file
     l
 
--- The number that lp_read and lp_end return, taken apart as include/lentilpot.h does, says what was answered, served or refused, on any
--- bytes.
+-- The number that lp_read and lp_end return, taken apart as include/lentilpot.h does,
+-- says what was answered, served or refused, on any bytes.
 abbrev pub BoxTakenApart : Type 0
 BoxTakenApart =
     ((b session input room : List ℕ)

@@ -60,8 +60,8 @@ earlyFiles =
     answers (cr ∷ []) (1 ∷ 237 ∷ 1010 ∷ []) ∷
     answers (letters ">>ESI16112" ++ (cr ∷ lf ∷ [])) (12 ∷ 237 ∷ 1032 ∷ []) ∷
     answers (letters ">>ESI16112" ++ (cr ∷ cr ∷ lf ∷ [])) (13 ∷ 237 ∷ 1032 ∷ []) ∷
-    -- an ESI alone: under 11 characters, a length that isn't digits, one that isn't the layout's, cut short, characters over that aren't
-    -- blank
+    -- an ESI alone: under 11 characters, a length that isn't digits,
+    -- one that isn't the layout's, cut short, characters over that aren't blank
     answers (line ">>ESI16112") (11 ∷ 237 ∷ 1032 ∷ []) ∷
     answers (line ">>ESI1X1120") (12 ∷ 237 ∷ 1010 ∷ []) ∷
     answers (line ">>ESI160120") (12 ∷ 237 ∷ 1011 ∷ []) ∷

@@ -1,6 +1,5 @@
--- A bank with one customer, whose keys are those of document 001's appendix 3, and an ESI and a batch of his with their checksums and
--- digest,
--- which were made with another DES.
+-- A bank with one customer, whose keys are those of document 001's appendix 3,
+-- and an ESI and a batch of his with their checksums and digest, which were made with another DES.
 -- Assumes nothing.
 use Prim.Native.Nat.{ℕ}
 use mathlib.Core.Bool.{true}

@@ -1,6 +1,5 @@
--- What an accepted message passed and what it leaves: its stamp was neither held nor too old; then it is held, and all but the sender's
--- record and the
--- key maker's seed is as it was.
+-- What an accepted message passed and what it leaves: its stamp was neither held nor too old;
+-- then it is held, and all but the sender's record and the key maker's seed is as it was.
 -- Assumes nothing.
 use Prim.Native.Nat.{ℕ}
 use mathlib.Core.Path.{_≡_, refl, sym, ap, _∙_, subst}
@@ -21,7 +20,7 @@ use Rattle.table_calls.proofs.Laws.{Kept}
 use Rattle.message.specs.Fields.{senderOf, stampOf}
 use Rattle.message.specs.declared.Kind.the-variants.{Esi, Suo, Var}
 use Rattle.message.specs.declared.Fault.the-variants.{Sound}
-use Rattle.message.proofs.Laws.{sound-date}
+use Rattle.message.proofs.Stamps.{stamp-date}
 use Rattle.message.specs.Order.{firstFailing}
 use Rattle.message.specs.Rules.{formOf, formChecks}
 use Rattle.message.specs.declared.About.the-variants.{Answered, Closing}
@@ -81,7 +80,7 @@ stamp-passed : (t : Table) (c : Customer) (today : Date) (m : List ℕ) → leng
     → (stampOld (t .holidays) today (stampOf m) ≡ false) × (holdsStamp c (stampOf m) ≡ false)
 unfolding stampChecks
 stamp-passed t c today m l n =
-    (ap (λ (d : ℕ). tooOld (t .holidays) (dated d) today) (sym (sound-date m l)) ∙ n .0, n .1 .1 .0)
+    (ap (λ (d : Date). tooOld (t .holidays) d today) (sym (stamp-date m l)) ∙ n .0, n .1 .1 .0)
 
 -- ---- what stays
 

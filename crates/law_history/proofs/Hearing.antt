@@ -29,9 +29,8 @@ use Rattle.law_history.proofs.Accepts.{Took}
 use Rattle.law_history.proofs.Effects.{Effect, unsaid, refused, taken, effect}
 use Rattle.law_history.proofs.Shown.{shows-none, shows-reply, says-k, says-e, says-sender, says-stamp}
 
--- a call on the table's bytes b that leaves the bytes u and shows the replies rs: with no K every byte stays, and with K the message was
--- taken
--- whose sender and stamp the reply repeats
+-- a call on the table's bytes b that leaves the bytes u and shows the replies rs:
+-- with no K every byte stays, and with K the message was taken whose sender and stamp the reply repeats
 pub data Heard (b u : List ℕ) (rs : List (List ℕ)) : Type 0 where
   nothing : rs ≡ [] → u ≡ b → Heard b u rs
   with-e : (r : List ℕ) → rs ≡ r ∷ [] → isK r ≡ false → u ≡ b → Heard b u rs

@@ -1,5 +1,5 @@
--- No stamp is accepted twice: a stamp that was accepted is used ever after, held or too old, and a message whose stamp is used is not
--- accepted.
+-- No stamp is accepted twice: a stamp that was accepted is used ever after,
+-- held or too old, and a message whose stamp is used is not accepted.
 -- Assumes nothing.
 use Prim.Native.Nat.{ℕ}
 use mathlib.Core.Path.{_≡_, refl, sym, ap, _∙_, subst}

@@ -1,15 +1,14 @@
--- A stamp that was accepted stays used: in the table after a call each record stands in its place and holds all its stamps but those that
--- are too old,
--- the day does not go back, and the holidays are the same, so that what is too old stays so.
+-- A stamp that was accepted stays used: in the table after a call each record stands in its place and holds all its stamps
+-- but those that are too old, the day does not go back, and the holidays are the same, so that what is too old stays so.
 -- Assumes nothing.
 use Prim.Native.Nat.{ℕ, _≤_, _<_}
-use mathlib.Core.Path.{_≡_, refl, sym, ap, _∙_, subst}
+use mathlib.Core.Path.{_≡_, refl, sym, ap, _∙_}
 use mathlib.Core.List.{List, [], _∷_}
 use mathlib.Core.Bool.{Bool, true, false, false≢true}
 use native.Mathlib.Omega.{arith}
-use borrow.Author.Tests.{eqb-true, eqb-false, le-ltb}
-use lib.Dec.{eqb}
+use borrow.Author.Tests.{le-ltb}
 use lib.ListN.{length, length-set, length-append}
+use Rattle.ground.proofs.Numbers.{each-place}
 use Rattle.calendar.specs.Dates.{dated, earlier, placeInOrder}
 use Rattle.calendar.specs.Banking.{tooOld}
 use Rattle.calendar.specs.declared.Date.{Date}
@@ -81,13 +80,6 @@ pub day-stays : (t u : Table) → u .day ≡ t .day → earlier (u .day) (t .day
 day-stays t u e = ap (λ (d : ℕ). earlier d (t .day)) e ∙ not-before (t .day)
 
 -- what holds of a place, and of every other, holds of each
-each-place : (P : ℕ → Type 0) (i : ℕ) → P i → ((j : ℕ) → (i ≡ j → ⊥) → P j) → (j : ℕ) → P j
-each-place P i p q j = by (eqb i j) refl
-  where
-    by : (b : Bool) → eqb i j ≡ b → P j
-    by true e = subst P (eqb-true i j e) p
-    by false e = q j (eqb-false i j e)
-
 module _ (t u : Table) (i : ℕ) (others : (j : ℕ) → (i ≡ j → ⊥) → customerIn u j ≡ customerIn t j) where
   one-changed : soundTable u ≡ true → u .holidays ≡ t .holidays → earlier (u .day) (t .day) ≡ false → length (u .customers)
       ≡ length (t .customers)

@@ -1,5 +1,5 @@
--- The reply that stands in the room after a call is the answer's reply, since the room holds the longest; K, sender and stamp are read off
--- it.
+-- The reply that stands in the room after a call is the answer's reply,
+-- since the room holds the longest; K, sender and stamp are read off it.
 -- Assumes nothing.
 use Prim.Native.Nat.{ℕ, _≤_}
 use mathlib.Core.Path.{_≡_, refl, sym, ap, _∙_}

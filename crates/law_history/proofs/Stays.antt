@@ -99,9 +99,8 @@ call-heard b (opening o) h t z = absurd (false≢true h)
 call-heard b (reading s input room) h t z = read-hears s b input room t z
 call-heard b (ending s room) h t z = end-hears s b room t z
 
--- what a call that shows the replies rs keeps of the table: day, holidays and settings but V; every customer's place; every record but that
--- of
--- the sender whom a reply with K names
+-- what a call that shows the replies rs keeps of the table: day, holidays and settings but V;
+-- every customer's place; every record but that of the sender whom a reply with K names
 pub record Spared (t u : Table) (rs : List (List ℕ)) : Type 0 where
   pub day : u .day ≡ t .day
   pub kept : Kept t u

@@ -1,5 +1,5 @@
--- Every turn of the machine is one of four: it says nothing, it gives a bare E, or it ends an ESI or a VAR; each choice of the machine is
--- between these.
+-- Every turn of the machine is one of four: it says nothing, it gives a bare E,
+-- or it ends an ESI or a VAR; each choice of the machine is between these.
 -- Assumes nothing.
 use Prim.Native.Nat.{ℕ}
 use mathlib.Core.Path.{_≡_, refl, sym, ap, _∙_, subst}

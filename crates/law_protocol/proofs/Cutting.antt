@@ -1,5 +1,5 @@
--- No way of cutting a file into reads matters: what a run shows is what the machine tells, and that is the whole-file answer over the bytes
--- lent at opening.
+-- No way of cutting a file into reads matters: what a run shows is what the machine tells,
+-- and that is the whole-file answer over the bytes lent at opening.
 -- Assumes nothing.
 use Prim.Native.Nat.{ℕ}
 use mathlib.Core.Path.{_≡_, ap, _∙_}
@@ -69,8 +69,8 @@ module _ (b : List ℕ) (o : Opening) (z : openingAnswer b o ≡ 0) where
       ≡ record { given = wholeFile o dated file .given; table = written b (wholeFile o dated file .standing .table) }
   all-told file = ap (λ (s : Session). allTold 0 s (openingLeaves b o) file) (session-is b o z) ∙ told-is file
 
--- THE THEOREM: whatever the sizes of the reads, a run over an opened file shows the whole-file answer, each reply at the place that settles
--- it
+-- THE THEOREM: whatever the sizes of the reads,
+-- a run over an opened file shows the whole-file answer, each reply at the place that settles it
 pub any-cuts : (b : List ℕ) (o : Opening) (file : List ℕ) (ks : List Lent) (rooms : List (List ℕ)) (l : Saw) → openingAnswer b o ≡ 0
     → Runs ks rooms 0 (openingGives b o .session) (openingLeaves b o) file l
     → l ≡ record {

@@ -1,5 +1,5 @@
--- The end calls show what the file's end says: where a last record replies and another reply is due there are two, each with its reply,
--- else one.
+-- The end calls show what the file's end says:
+-- where a last record replies and another reply is due there are two, each with its reply, else one.
 -- Assumes nothing.
 use Prim.Native.Nat.{ℕ, _≤_}
 use mathlib.Core.Path.{_≡_, refl, sym, ap, ap₂, _∙_, subst}

@@ -1,5 +1,5 @@
--- In a good state no call with room for a reply is refused: each of the refusals is one that the state rules out, and what a step keeps
--- keeps it good.
+-- In a good state no call with room for a reply is refused:
+-- each of the refusals is one that the state rules out, and what a step keeps keeps it good.
 -- Assumes nothing.
 use Prim.Native.Nat.{ℕ, _≤_}
 use mathlib.Core.Path.{_≡_, sym, ap, _∙_}

@@ -1,5 +1,5 @@
--- A file that was just opened is good: the opening's refusals rule out what a read would refuse, and it stores the day that its session
--- has.
+-- A file that was just opened is good: the opening's refusals rule out what a read would refuse,
+-- and it stores the day that its session has.
 -- Assumes nothing.
 use Prim.Native.Nat.{ℕ}
 use mathlib.Core.Path.{_≡_, refl, sym, ap, _∙_, subst}

@@ -1,5 +1,5 @@
--- However a file is cut into reads, the caller sees what the machine says over it: a read shows what its scan says, and the rest is told
--- from there.
+-- However a file is cut into reads, the caller sees what the machine says over it:
+-- a read shows what its scan says, and the rest is told from there.
 -- Assumes nothing.
 use Prim.Native.Nat.{ℕ, _+_, _≤_}
 use mathlib.Core.Path.{_≡_, sym, ap, ap₂, _∙_, subst}

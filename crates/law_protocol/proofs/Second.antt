@@ -1,5 +1,5 @@
--- After an end that replied and leaves another reply due, the next end gives just that reply: no record is on its way, or a SUO that wants
--- more.
+-- After an end that replied and leaves another reply due, the next end gives just that reply:
+-- no record is on its way, or a SUO that wants more.
 -- Assumes nothing.
 use Prim.Native.Nat.{ℕ}
 use mathlib.Core.Path.{_≡_, refl, sym, ap, _∙_, subst}

@@ -1,19 +1,19 @@
 -- Characters kept up to 161: the first of them, and whether those past them are blank, say all that a message asks.
 -- Assumes nothing.
-use Prim.Native.Nat.{ℕ, zero, suc, _+_, _-_, _≤_, _<_, min}
+use Prim.Native.Nat.{ℕ, suc, _+_, _-_, _≤_, _<_, min}
 use Prim.Native.String.{String}
 use mathlib.Core.Path.{_≡_, refl, sym, ap, ap₂, _∙_}
 use mathlib.Core.Bool.{Bool, true, false}
 use mathlib.Core.List.{List, [], _∷_, _++_, append-assoc}
-use native.Mathlib.Nat.{not-suc-le-zero, le-of-suc-le-suc}
 use native.Mathlib.Omega.{arith}
-use borrow.Author.Tests.{ltb-true, ltb-false, lt-ltb, le-ltb, eqb-true, eqb-false, eq-eqb, ne-eqb}
+use borrow.Author.Tests.{ltb-true, ltb-false, lt-ltb, le-ltb}
 use lib.Dec.{eqb, ltb}
-use lib.ListN.{length, take, drop, set, replicate, length-append, length-take, length-replicate, take-append-drop}
+use lib.ListN.{length, take, drop, set, replicate, length-append, length-take, length-replicate}
 use lib.Seq.{take-all, take-append-le, take-append-add, set-append-seam, take-take, take-append-seam}
 use Rattle.ground.specs.Choice.{both, pick, fails}
-use Rattle.ground.specs.Lists.{all, same, part}
-use Rattle.ground.proofs.Lists.{all-append, drop-take, take-zeros}
+use Rattle.ground.specs.Lists.{all, same}
+use Rattle.ground.proofs.Lists.{all-append}
+use Rattle.ground.proofs.Parts.{drop-split, part-take, take-zeros}
 use Rattle.text.specs.Characters.{blank, digit, allBlank}
 use Rattle.text.specs.Numbers.{decimal}
 use Rattle.text.specs.Letters.{letters}
@@ -23,6 +23,7 @@ use Rattle.message.specs.declared.Extent.the-variants.{Whole, TooShort, LengthN
 use Rattle.message.specs.declared.Kind.{Kind}
 use Rattle.message.specs.declared.Kind.the-variants.{Esi, Suo, Var}
 use Rattle.whole_file.specs.Records.{cr, withoutCr}
+use Rattle.message.proofs.Places.{length-field}
 use Rattle.whole_file.specs.Messages.{begins, headLength, extentOf, wantsMore, textOf}
 
 -- ---- one CR at the end
@@ -38,32 +39,6 @@ unfolding withoutCr pick
 without-other [] c e = rw e
 without-other (x ∷ []) c e = rw e
 without-other (x ∷ y ∷ l) c e = ap (λ (k : List ℕ). x ∷ k) (without-other (y ∷ l) c e)
-
--- ---- tests over two lists in one
-
-pub eqb-turned : (a b : ℕ) → eqb a b ≡ eqb b a
-eqb-turned a b = go (eqb b a) refl
-  where
-    go : (t : Bool) → eqb b a ≡ t → eqb a b ≡ t
-    go true e = eq-eqb a b (sym (eqb-true b a e))
-    go false e = ne-eqb a b (λ p. eqb-false b a e (sym p))
-
--- a list of one
-pub all-one : (b c : ℕ) → all (eqb b) (c ∷ []) ≡ eqb c b
-unfolding all both
-all-one b c = go (eqb b c) refl ∙ eqb-turned b c
-  where
-    go : (t : Bool) → eqb b c ≡ t → both t true ≡ eqb b c
-    go true e = sym e
-    go false e = sym e
-
--- ---- parts
-
-pub drop-split : (m n : ℕ) (l : List ℕ) → m ≤ n → drop m l ≡ drop m (take n l) ++ drop n l
-drop-split zero n l h = sym (take-append-drop n l)
-drop-split (suc m) zero l h = absurd (not-suc-le-zero h)
-drop-split (suc m) (suc n) [] h = refl
-drop-split (suc m) (suc n) (x ∷ l) h = drop-split m n l (le-of-suc-le-suc h)
 
 -- ---- the text: zeros after the last character
 
@@ -140,10 +115,6 @@ pub wants-kept : (kind : Kind) (l : List ℕ) → wantsMore kind (take 161 l) �
 unfolding wantsMore
 wants-kept kind l = kept-length l (layoutLength kind) (layout-within kind)
 
-part-kept : (l : List ℕ) → part 5 3 (take 161 l) ≡ part 5 3 l
-unfolding part
-part-kept l = ap (take 3) (drop-take 5 156 161 l refl) ∙ take-take 3 156 (drop 5 l) (omega arith)
-
 abbrev told : Kind → Bool → List ℕ → Extent
 told kind short p =
     pick short TooShort
@@ -151,7 +122,8 @@ told kind short p =
 
 pub extent-kept : (kind : Kind) (l : List ℕ) → extentOf kind (take 161 l) ≡ extentOf kind l
 unfolding extentOf
-extent-kept kind l = ap₂ (told kind) (kept-length l headLength (omega arith)) (part-kept l)
+extent-kept kind l = ap₂ (told kind) (kept-length l headLength (omega arith))
+    (length-field (take 161 l) ∙ part-take l 5 3 161 (omega arith) ∙ sym (length-field l))
 
 -- blanks past the layout's length are those among the first 161 and those past them
 pub blank-kept : (k : ℕ) (l : List ℕ) → k ≤ 161 → both (allBlank (drop k (take 161 l))) (allBlank (drop 161 l)) ≡ allBlank (drop k l)

@@ -1,5 +1,5 @@
--- A record's end, a byte past the size limit and the file's end give the same on both sides: by cases on the situation, each by its
--- messages.
+-- A record's end, a byte past the size limit and the file's end give the same on both sides:
+-- by cases on the situation, each by its messages.
 -- Assumes nothing.
 use Prim.Native.Nat.{ℕ, _+_, _≤_, _<_, _^_}
 use Prim.Native.String.{String}

@@ -1,5 +1,5 @@
--- The batch on its way is that of the frame's data records: its digest goes over the characters as they come, and at a VAR over the records
--- before it.
+-- The batch on its way is that of the frame's data records:
+-- its digest goes over the characters as they come, and at a VAR over the records before it.
 -- Assumes nothing.
 use Prim.Native.Nat.{ℕ, _+_, _≤_, _<_, _^_}
 use mathlib.Core.Path.{_≡_, refl, sym, ap, _∙_}

@@ -13,7 +13,7 @@ use lib.Seq.{drop-append-le}
 use Rattle.ground.specs.Choice.{both}
 use Rattle.ground.specs.Lists.{all}
 use Rattle.ground.proofs.Choices.{picks, skips}
-use Rattle.ground.proofs.Lists.{all-append}
+use Rattle.ground.proofs.Lists.{all-append, all-one}
 use Rattle.text.specs.Characters.{blank, allBlank}
 use Rattle.message.specs.Layout.{layoutLength}
 use Rattle.message.specs.declared.Extent.{Extent}
@@ -54,7 +54,7 @@ module _ (l : List ℕ) (c : ℕ) where
       skips _ _ _ (le-ltb (min 161 (length l)) 161 (omega arith)) ∙ gathered-eq n b t
     where
       alone : all (eqb blank) (c ∷ []) ≡ eqb c blank
-      alone = Chars.all-one blank c
+      alone = all-one blank c
 
       over : 161 ≤ length l → both (allBlank (drop 161 l)) (eqb c blank) ≡ allBlank (drop 161 (l ++ (c ∷ [])))
       over h =

@@ -1,5 +1,5 @@
--- The machine says what the whole-file answer says: by one induction over the bytes, each of which leaves the session standing for the
--- standing after it.
+-- The machine says what the whole-file answer says: by one induction over the bytes,
+-- each of which leaves the session standing for the standing after it.
 -- Assumes nothing.
 use Prim.Native.Nat.{ℕ, _+_, _≤_, _<_, _^_}
 use mathlib.Core.Path.{_≡_, refl, sym, ap, ap₂, _∙_, subst}

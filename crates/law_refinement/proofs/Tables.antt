@@ -1,5 +1,5 @@
--- A verdict leaves a table with as many holidays and customers, so writing it over the bytes of the one before is writing it over the first
--- bytes.
+-- A verdict leaves a table with as many holidays and customers,
+-- so writing it over the bytes of the one before is writing it over the first bytes.
 -- Assumes nothing.
 use Prim.Native.Nat.{ℕ, _<_, _^_}
 use mathlib.Core.Path.{_≡_, refl, sym, ap, ap₂, _∙_}

@@ -119,8 +119,8 @@ pub record Stands (o : Opening) (b₀ : List ℕ) (st : Standing) (raw : List �
   pub counted : digested (st .situation) + length raw ≤ at
   pub hears : Hears o b₀ at st chars s b
 
--- ---- a turn of the session gives what a step of the whole-file answer gives, and then stands for the standing after it, with no record on
--- its way
+-- ---- a turn of the session gives what a step of the whole-file answer gives,
+-- and then stands for the standing after it, with no record on its way
 
 pub record Answers (o : Opening) (b₀ : List ℕ) (n : ℕ) (l : Line) (x : Step) (y : Turn) : Type 0 where
   pub says : saidBy y ≡ x .says

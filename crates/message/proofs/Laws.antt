@@ -17,7 +17,7 @@ use Rattle.ground.proofs.Lists.{member-front}
 use Rattle.text.specs.Letters.{letters}
 use Rattle.text.specs.Numbers.{digitValue, decimal, decimalFrom, hex}
 use Rattle.text.proofs.Laws.{decimal-lt, hex-lt}
-use Rattle.calendar.specs.Dates.{realDate, realTime}
+use Rattle.calendar.specs.Dates.{realDate, realTime, isReal}
 use Rattle.message.specs.Layout.{Field, fields, total, offsetIn, widthIn, fieldText, layout, bankEsi, pte}
 use Rattle.message.specs.Order.{Check, firstFailing}
 use Rattle.message.specs.Rules.{formOf, formatHolds, oneOf, methods, commonRules, ownRules, obeys, valueHolds, isShort, formatFails}
@@ -65,9 +65,6 @@ once-lt m = hex-below 150 m (lit≤ tt)
 pub sound-generations : (m : List ℕ) → (transportGenerationOf m < 10) × (workingGenerationOf m < 10)
 unfolding transportGenerationOf workingGenerationOf widthIn pick
 sound-generations m = (below 100 1 m (lit≤ tt), below 110 1 m (lit≤ tt))
-
-pub sound-date : (m : List ℕ) → length m ≡ 161 → dateOfStamp m ≡ stampOf m / 1000000000
-sound-date m e = stamp-date m e
 
 -- ---- the fields that every kind has
 
@@ -199,7 +196,7 @@ unfolding member either dateOfStamp
 sound-stamp k about m e l =
     let text = m .text in (
       stamp-lt text l,
-      ap realDate (sym (stamp-date text l))
+      ap isReal (sym (stamp-date text l))
           ∙ date-real k text (value-of k 121 text (sound-field k about m e 121 (in-each k 121 refl) .1) .0),
       ap realTime (sym (stamp-time text l))
           ∙ time-real k text (value-of k 122 text (sound-field k about m e 122 (in-each k 122 refl) .1) .0),

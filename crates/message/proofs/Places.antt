@@ -1,32 +1,22 @@
 -- Where the fields stand: each begins where those before it end, which is computed for all of them, and what is read there.
 -- Assumes nothing.
-use mathlib.Core.Path.{_≡_, sym, ap, _∙_}
-use mathlib.Core.Logic.{⊎-elim}
+use mathlib.Core.Path.{_≡_, refl, ap, _∙_}
 use mathlib.Core.List.{List, [], _∷_, _++_, map, append-nil}
-use Prim.Native.Nat.{ℕ, zero, suc, _+_, _-_, _^_, _≤_, _<_, zero-le, min}
+use Prim.Native.Nat.{ℕ, zero, suc, _+_, _-_, _^_, _≤_, _<_, zero-le}
 use native.Mathlib.Nat.{not-suc-le-zero, le-of-suc-le-suc, le-trans, lt-of-lt-of-le, pow-le-pow-right}
 use native.Mathlib.Numerals.{add-one}
 use native.Mathlib.Omega.{arith}
 use borrow.Author.Tests.{eqb-true}
-use lib.Dec.{T, eqb, lit<, lit≤}
-use lib.ListN.{length, getD, take, drop, length-drop, drop-of-length-le}
+use lib.Dec.{eqb, lit<, lit≤}
+use lib.ListN.{length, getD, take, drop-of-length-le}
 use lib.Seq.{take-all, take-nil}
 use Rattle.ground.specs.Choice.{both, pick}
 use Rattle.ground.specs.Lists.{part, overlay}
-use Rattle.ground.proofs.Table as table
-use Rattle.ground.proofs.Lists.{part-full, part-short}
-use Rattle.ground.proofs.Bools.{tested}
+use Rattle.ground.proofs.Parts.{part-length, part-short}
+use Rattle.ground.proofs.Table.{each}
 use Rattle.text.specs.Numbers.{decimal, hex}
-use Rattle.text.proofs.Lists.{each}
 use Rattle.text.proofs.Laws.{decimal-lt}
-use Rattle.calendar.proofs.Walk.{below}
-use Rattle.message.specs.Layout.{Field, laid, noField, fields, total, offsetIn, widthIn, fieldText}
-
--- a table that agrees with a rule at each place
-pub ruled : (f : ℕ → ℕ) (n k : ℕ) → k < n → (xs : List ℕ) → length xs ≡ n → T (table.every (λ k x. eqb x (f k)) 0 xs) → getD xs k 0 ≡ f k
-ruled f n k h xs e t =
-    eqb-true (getD xs k 0) (f k)
-    (tested (eqb (getD xs k 0) (f k)) (table.at (λ k x. eqb x (f k)) xs t k (rw e h)))
+use Rattle.message.specs.Layout.{Field, laid, field, noField, fields, total, offsetIn, widthIn, fieldText}
 
 -- the number of the field at a place
 abbrev pub numberAt : ℕ → ℕ
@@ -51,28 +41,6 @@ rises (f ∷ l) (suc i) (suc j) h = omega (arith, rises l i j (le-of-suc-le-suc 
 pub ordered : (i j : ℕ) → i ≤ j → total (take i fields) ≤ total (take j fields)
 ordered = rises fields
 
--- what lies past the end of a list is nothing
-module _ (first last : ℕ) (m : List ℕ) (h : first ≤ last) {x y a e : ℕ} (p : x ≡ first) (q : y ≡ last)
-    (s : a ≡ min x (length m)) (t : e ≡ min y (length m)) where
-  pub cut-ordered : a ≤ e
-  cut-ordered = omega arith
-
-  pub cut-part : take (e - a) (drop a m) ≡ part first (last - first) m
-  unfolding part
-  cut-part =
-      ⊎-elim
-      (λ l.
-      let b : a ≡ first = omega arith in
-      ⊎-elim (λ k. let d : e ≡ last = omega arith in rw (b, d))
-      (λ k.
-      let n : length (drop first m) ≡ length m - first = length-drop first m in
-      rw b (take-all (e - first) (drop first m) (omega arith) ∙ sym (take-all (last - first) (drop first m) (omega arith))))
-      (below last (length m)))
-      (λ l.
-      let z : e - a ≡ 0 = omega arith in
-      rw (z, drop-of-length-le m {i = first} (omega arith), take-nil {A = ℕ} (last - first)))
-      (below first (length m))
-
 -- the two rules of a field's place, computed
 begins : (i : ℕ) → i < 22 → offsetIn (numberAt i) fields ≡ total (take i fields)
 unfolding both pick offsetIn total
@@ -89,11 +57,16 @@ pub placed : (i : ℕ) (m : List ℕ) → i < 22
 unfolding fieldText
 placed i m h = rw (add-one i, begins i h, wide i h)
 
+-- field 2, which states the length
+pub length-field : (m : List ℕ) → fieldText (field 2) m ≡ part 5 3 m
+unfolding fieldText offsetIn widthIn pick
+length-field m = refl
+
 -- ---- what is read at a place
 
 pub narrow : (n : ℕ) (m : List ℕ) → length (fieldText n m) ≤ widthIn n fields
 unfolding fieldText
-narrow n m = part-short (offsetIn n fields) (widthIn n fields) m
+narrow n m = part-short m (offsetIn n fields) (widthIn n fields)
 
 -- a text that is short enough is read whole, and at most nine digits fit in 32 bits
 module _ (text : List ℕ) (r : ℕ) where
@@ -119,7 +92,7 @@ module _ (v n : ℕ) (text : List ℕ) (e : n ≡ v) (h : length text ≤ widthI
 -- the same of what a span lends
 module _ (at w : ℕ) (s m : List ℕ) (e : s ≡ part at w m) where
   s-length : length s ≤ w
-  s-length = rw e (part-short at w m)
+  s-length = rw e (part-short m at w)
 
   pub numbered : (r : ℕ) → w ≤ 19 → r ≡ decimal (take 19 s) → r ≡ decimal (part at w m)
   numbered r h q = number-whole s r (le-trans s-length h) q ∙ ap decimal e
@@ -134,7 +107,7 @@ module _ (at w : ℕ) (s m : List ℕ) (e : s ≡ part at w m) where
   pub copied : (out d : List ℕ) → out ≡ overlay s d → length d ≡ w → at + w ≤ length m → out ≡ part at w m
   unfolding overlay
   copied out d q p h =
-      let l : length s ≡ w = ap length e ∙ part-full at w m h in
+      let l : length s ≡ w = ap length e ∙ part-length m at w h in
       q
       ∙ ap (λ (t : List ℕ). take (length d) s ++ t) (drop-of-length-le d {i = length s} (omega arith))
       ∙ append-nil (take (length d) s)

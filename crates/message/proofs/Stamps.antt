@@ -8,9 +8,10 @@ use native.Mathlib.Omega.{arith}
 use lib.ListN.{length}
 use Rattle.ground.specs.Choice.{pick}
 use Rattle.ground.specs.Lists.{part}
-use Rattle.ground.proofs.Lists.{part-full, parted}
+use Rattle.ground.proofs.Parts.{part-length, part-add}
 use Rattle.text.specs.Numbers.{digitValue, decimal, decimalFrom}
 use Rattle.text.proofs.Laws.{decimal-nil, decimal-cons, decimal-lt}
+use Rattle.calendar.specs.Dates.{dated}
 use Rattle.message.specs.Layout.{offsetIn, widthIn, fieldText}
 use Rattle.message.specs.Fields.{stampTextOf, stampOf, dateOfStamp}
 
@@ -47,14 +48,14 @@ joined w l r e = after 0 l r ∙ raised (decimal l) r ∙ ap (λ (n : ℕ). deci
 
 module _ (m : List ℕ) (e : length m ≡ 161) where
   late : decimal (part 93 9 m) ≡ decimal (part 93 6 m) * 10 ^ 3 + decimal (part 99 3 m)
-  late = ap decimal (parted 93 6 3 m) ∙ joined 3 (part 93 6 m) (part 99 3 m) (part-full 99 3 m (omega arith))
+  late = ap decimal (part-add m 93 6 3) ∙ joined 3 (part 93 6 m) (part 99 3 m) (part-length m 99 3 (omega arith))
 
   split : decimal (part 87 15 m) ≡ decimal (part 87 6 m) * 10 ^ 9 + decimal (part 93 9 m)
-  split = ap decimal (parted 87 6 9 m) ∙ joined 9 (part 87 6 m) (part 93 9 m) (part-full 93 9 m (omega arith))
+  split = ap decimal (part-add m 87 6 9) ∙ joined 9 (part 87 6 m) (part 93 9 m) (part-length m 93 9 (omega arith))
 
   below : (at w : ℕ) → at + w ≤ 161 → decimal (part at w m) < 10 ^ w
   below at w h =
-      let l : length (part at w m) ≡ w = part-full at w m (omega arith) in
+      let l : length (part at w m) ≡ w = part-length m at w (omega arith) in
       rw l at (decimal-lt (part at w m))
 
   pub stamp-lt : stampOf m < 10 ^ 15
@@ -62,9 +63,10 @@ module _ (m : List ℕ) (e : length m ≡ 161) where
   stamp-lt = below 87 15 (omega arith)
 
   -- the date stands before nine digits
-  pub stamp-date : dateOfStamp m ≡ stampOf m / 1000000000
+  pub stamp-date : dateOfStamp m ≡ dated (stampOf m / 1000000000)
   unfolding dateOfStamp stampOf stampTextOf fieldText offsetIn widthIn pick
-  stamp-date = omega (arith, split, below 93 9 (omega arith))
+  stamp-date =
+      let e : decimal (part 87 6 m) ≡ stampOf m / 1000000000 = omega (arith, split, below 93 9 (omega arith)) in ap dated e
 
   -- the time stands before three
   pub stamp-time : decimal (fieldText 122 m) ≡ stampOf m / 1000 % 1000000

@@ -11,7 +11,7 @@ use lib.ListN.{length, getD, take, drop, drop-of-length-le}
 use lib.Seq.{drop-cons, getD-take}
 use Rattle.ground.specs.Choice.{both, either, fails, pick}
 use Rattle.ground.specs.Lists.{member, part}
-use Rattle.ground.proofs.Choices.{join, either-left, either-decides, picks, skips}
+use Rattle.ground.proofs.Choices.{join, either-left, either-decides, picks, skips, decides}
 use Rattle.ground.proofs.Bools.{both-assoc, both-true}
 use Rattle.ground.specs.First.{firstThat}
 use Rattle.message.specs.Layout.{Field, laid, noField, fields, total, fieldText, layout}
@@ -81,14 +81,10 @@ pub unasked : (rules : Kind → List Rule) (k j : Kind) (n : ℕ) (m : List ℕ)
 unasked rules k j n m e h =
     sym (ap (λ (x : Kind). obeys (rules x) n m) e ∙ unasked-of (rules j) n m h)
 
-true-both : (t : Bool) → t ≡ both true t
-unfolding both
-true-both t = refl
-
 -- the rules of two lists
 pub obeys-append : (a b : List Rule) (n : ℕ) (m : List ℕ) → obeys (a ++ b) n m ≡ both (obeys a n m) (obeys b n m)
 unfolding obeys
-obeys-append [] b n m = true-both (obeys b n m)
+obeys-append [] b n m = sym (decides true (obeys b n m) refl)
 obeys-append (r ∷ a) b n m =
     let x : Bool = only (eqb (r .number) n) (r .holds m) in
     ap (both x) (obeys-append a b n m) ∙ sym (both-assoc x (obeys a n m) (obeys b n m))

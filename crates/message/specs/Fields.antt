@@ -6,6 +6,8 @@ use Rattle.ground.specs.Choice.{pick}
 use Rattle.ground.specs.Lists.{part, same}
 use Rattle.text.specs.Numbers.{decimal, hex}
 use Rattle.text.specs.Letters.{letters}
+use Rattle.calendar.specs.Dates.{dated}
+use Rattle.calendar.specs.declared.Date.{Date}
 use Rattle.digest.specs.declared.Method.{Method}
 use Rattle.digest.specs.declared.Method.the-variants.{Skh, Ske}
 use Rattle.message.specs.Layout.{field, subfield, fields, offsetIn, fieldText}
@@ -24,8 +26,9 @@ stampTextOf m = part (offsetIn (subfield 12 1) fields) 15 m
 unfoldable pub stampOf : List ℕ → ℕ
 stampOf m = decimal (stampTextOf m)
 
-unfoldable pub dateOfStamp : List ℕ → ℕ
-dateOfStamp m = decimal (fieldText (subfield 12 1) m)
+-- the date of that stamp
+unfoldable pub dateOfStamp : List ℕ → Date
+dateOfStamp m = dated (decimal (fieldText (subfield 12 1) m))
 
 unfoldable pub versionOf : List ℕ → ℕ
 versionOf m = decimal (fieldText (field 3) m)

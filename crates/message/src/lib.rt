@@ -389,7 +389,7 @@ pub fn stamp(m: [u8; 161]) -> u64
 }
 
 pub fn date(m: [u8; 161]) -> calendar::Date
-    ensures { λ r. ⌜ r .yymmdd ≡ dateOfStamp m ⌝ }
+    ensures { λ r. ⌜ r ≡ dateOfStamp m ⌝ }
 {
     calendar::Date {
         yymmdd: text::number(span(13, 14, &m)) as u32,

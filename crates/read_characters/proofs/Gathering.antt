@@ -1,7 +1,7 @@
 -- One character more: it is kept while there is room, and past the room only a character that is no blank changes anything.
 -- Assumes nothing.
-use mathlib.Core.Path.{_≡_, refl, sym, _∙_}
-use mathlib.Core.Bool.{Bool, true, false}
+use mathlib.Core.Path.{_≡_, sym, ap, _∙_}
+use mathlib.Core.Bool.{Bool, false}
 use mathlib.Core.List.{List}
 use Prim.Native.Nat.{ℕ, _+_, _≤_, _<_}
 use native.Mathlib.Numerals.{add-one}
@@ -11,16 +11,12 @@ use lib.ListN.{length, getD, set, drop, drop-of-length-le}
 use lib.Seq.{drop-cons}
 use Rattle.ground.specs.Choice.{both}
 use Rattle.ground.proofs.Choices.{picks, skips, fails-right}
+use Rattle.ground.proofs.Bools.{both-true}
 use Rattle.text.specs.Characters.{blank}
 use Rattle.session.specs.Events.{gatheredWith, gatheredAll}
 use Rattle.session.specs.declared.Gathered.{Gathered}
 
 -- ---- one character
-
-both-true : (t u : Bool) → u ≡ true → both t u ≡ t
-unfolding both
-both-true true u e = e
-both-true false u e = refl
 
 module _ (g : Gathered) (c : ℕ) {count : ℕ} {clear : Bool} {text : List ℕ} where
   -- there is room
@@ -37,7 +33,7 @@ module _ (g : Gathered) (c : ℕ) {count : ℕ} {clear : Bool} {text : List ℕ}
   -- past the room a blank leaves all as it was
   pub past-blank : 161 ≤ g .count → c ≡ blank → count ≡ g .count → clear ≡ g .blank → text ≡ g .text
       → record { count = count; blank = clear; text = text } ≡ gatheredWith g c
-  past-blank h e p q r = past-room h p (q ∙ sym (both-true _ _ (eq-eqb _ _ e))) r
+  past-blank h e p q r = past-room h p (q ∙ sym (ap (both _) (eq-eqb _ _ e) ∙ both-true _)) r
 
   -- any other is told
   pub past-other : 161 ≤ g .count → (c ≡ blank → ⊥) → count ≡ g .count → clear ≡ false → text ≡ g .text

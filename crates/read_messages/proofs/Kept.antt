@@ -1,45 +1,35 @@
--- What is kept of a text is cut at the smaller of the count and the room, and a part that ends before the cut is the text's own.
+-- What is kept of a text: whether what is over is blank, and what the first record tells; its field 2 ends before any cut.
 -- Assumes nothing.
 use mathlib.Core.Path.{_≡_, sym, ap, _∙_}
 use mathlib.Core.Bool.{Bool, true, false}
 use mathlib.Core.List.{List}
-use Prim.Native.Nat.{ℕ, _+_, _-_, _≤_, _<_, min}
+use Prim.Native.Nat.{ℕ, _≤_, _<_, min}
 use native.Mathlib.Nat.{min-le-left, le-trans}
 use native.Mathlib.Omega.{arith}
 use borrow.Author.Tests.{lt-ltb, le-ltb, eq-eqb, ne-eqb}
 use lib.Dec.{eqb, ltb}
 use lib.ListN.{length, take, drop, length-take, drop-of-length-le}
-use lib.Seq.{take-take, take-all}
+use lib.Seq.{take-all}
 use Rattle.ground.specs.Choice.{both, fails, pick}
 use Rattle.ground.specs.Lists.{all, part}
 use Rattle.ground.proofs.Choices.{picks, skips, decides, fails-left}
-use Rattle.ground.proofs.Lists.{take-kept}
+use Rattle.ground.proofs.Parts.{part-take}
 use Rattle.text.specs.Characters.{digit, allBlank}
 use Rattle.text.specs.Numbers.{decimal}
-use Rattle.splices.proofs.Splice.{take-drop}
 use Rattle.message.specs.Layout.{layoutLength}
 use Rattle.message.specs.declared.Kind.{Kind}
 use Rattle.message.specs.declared.Extent.{Extent}
 use Rattle.message.specs.declared.Extent.the-variants.{Whole, TooShort, LengthNotDigits, OtherLength}
-use Rattle.whole_file.specs.Messages.{extentOf}
+use Rattle.message.proofs.Places.{length-field}
+use Rattle.whole_file.specs.Messages.{statedLength, extentOf}
 use Rattle.session.specs.Events.{held, collectedBy}
 use Rattle.session.specs.declared.Gathered.{Gathered}
-
--- ---- the cut
-
-pub kept-length : (n room : ℕ) (l : List ℕ) → length l ≡ room → length (take n l) ≡ min n room
-kept-length n room l e = length-take n l ∙ ap (min n) e
 
 -- ---- what is over
 
 pub none-over : (from n : ℕ) (l : List ℕ) → length (take n l) ≤ from → true ≡ allBlank (drop from (take n l))
 unfolding all
 none-over from n l h = rw (drop-of-length-le (take n l) h)
-
-pub some-over : (from n k : ℕ) (l : List ℕ) → k ≡ length (take n l) → from < k → take (k - from) (drop from l) ≡ drop from (take n l)
-some-over from n k l e h =
-    let s : from + (k - from) ≡ k = omega arith in
-    take-drop from (k - from) l ∙ ap (λ (i : ℕ). drop from (take i l)) (s ∙ e) ∙ ap (drop from) (take-kept n l)
 
 module _ (kind : Kind) (extent : Extent) (g : Gathered) (len : ℕ) (b : Bool) (e : len ≡ layoutLength kind)
     (d : b ≡ allBlank (drop len (take (g .count) (g .text)))) where
@@ -69,12 +59,11 @@ module _ (kind : Kind) (n : ℕ) (l : List ℕ) where
   under-eleven h = sym (picks _ _ _ (lt-ltb _ _ h))
 
   module _ (h : 11 ≤ length (take n l)) where
-    whole-part : part 5 3 (take n l) ≡ part 5 3 l
-    unfolding part
+    whole-part : statedLength (take n l) ≡ part 5 3 l
     whole-part =
         let e : length (take n l) ≡ min n (length l) = length-take n l in
         let m : 8 ≤ n = omega (arith, min-le-left n (length l)) in
-        take-drop 5 3 (take n l) ∙ ap (drop 5) (take-take 8 n l m) ∙ sym (take-drop 5 3 l)
+        length-field (take n l) ∙ part-take l 5 3 n m
 
     past-eleven : {A : Type 0} (a b : A) → pick (ltb (length (take n l)) 11) a b ≡ b
     past-eleven a b = skips _ a b (le-ltb _ _ h)
@@ -86,11 +75,11 @@ module _ (kind : Kind) (n : ℕ) (l : List ℕ) where
 
     module _ (b : Bool) (d : b ≡ all digit (part 5 3 l)) (t : b ≡ true) (r : ℕ) (e : r ≡ decimal (take 19 (part 5 3 l))) (len : ℕ)
         (g : len ≡ layoutLength kind) where
-      digits-in-it : {A : Type 0} (x y : A) → pick (fails (all digit (part 5 3 (take n l)))) x y ≡ y
+      digits-in-it : {A : Type 0} (x y : A) → pick (fails (all digit (statedLength (take n l)))) x y ≡ y
       unfolding fails
       digits-in-it x y = skips _ x y (ap (λ (p : List ℕ). fails (all digit p)) whole-part ∙ ap fails (sym d ∙ t))
 
-      read : r ≡ decimal (part 5 3 (take n l))
+      read : r ≡ decimal (statedLength (take n l))
       unfolding part
       read =
           let s : length (take 3 (drop 5 l)) ≤ 19 = simp length-take (le-trans (min-le-left 3 (length (drop 5 l))) (omega arith)) in
@@ -99,11 +88,11 @@ module _ (kind : Kind) (n : ℕ) (l : List ℕ) where
       pub other-length : (r ≡ len → ⊥) → OtherLength ≡ extentOf kind (take n l)
       unfolding extentOf fails
       other-length w =
-          let q : eqb (decimal (part 5 3 (take n l))) (layoutLength kind) ≡ false = ne-eqb _ _ (λ z. w (read ∙ z ∙ sym g)) in
+          let q : eqb (decimal (statedLength (take n l))) (layoutLength kind) ≡ false = ne-eqb _ _ (λ z. w (read ∙ z ∙ sym g)) in
           sym (past-eleven _ _ ∙ digits-in-it _ _ ∙ picks _ _ _ (ap fails q))
 
       pub its-length : r ≡ len → Whole ≡ extentOf kind (take n l)
       unfolding extentOf fails
       its-length w =
-          let q : eqb (decimal (part 5 3 (take n l))) (layoutLength kind) ≡ true = eq-eqb _ _ (sym read ∙ w ∙ g) in
+          let q : eqb (decimal (statedLength (take n l))) (layoutLength kind) ≡ true = eq-eqb _ _ (sym read ∙ w ∙ g) in
           sym (past-eleven _ _ ∙ digits-in-it _ _ ∙ skips _ _ _ (ap fails q))

@@ -1,11 +1,11 @@
 -- What an event gives is the definition's turn, by the tests and cases that led to it: one law for each kind of step, over any turn.
 -- Assumes nothing.
 use mathlib.Core.Path.{_≡_, refl, sym, ap, _∙_, subst}
-use mathlib.Core.Bool.{Bool, true, false, not}
+use mathlib.Core.Bool.{Bool, true, false}
 use mathlib.Core.List.{List}
 use Prim.Native.Nat.{ℕ}
 use Rattle.ground.specs.Choice.{pick}
-use Rattle.ground.proofs.Choices.{picks, skips}
+use Rattle.ground.proofs.Bools.{chosen, skipped}
 use Rattle.message.specs.declared.Extent.{Extent}
 use Rattle.whole_file.specs.Messages.{isWhole}
 use Rattle.session.specs.Events.{Turn, silent, replies, bareTurn}
@@ -16,21 +16,14 @@ use Rattle.session.specs.declared.Stepped.{Stepped}
 abbrev pub Gives : Stepped → List ℕ → Turn → Type 0
 Gives r v x = (r ≡ x .out) × (v ≡ x .table)
 
--- ---- a choice by a test, and by whether the first record stands alone
-
-module _ {A : Type 0} (P : A → Type 0) (x y : A) where
-  pub taken : (t b : Bool) → b ≡ t → b ≡ true → P x → P (pick t x y)
-  taken t b e h p = subst P (sym (picks t x y (sym e ∙ h))) p
-
-  pub left : (t b : Bool) → b ≡ t → b ≡ false → P y → P (pick t x y)
-  left t b e h p = subst P (sym (skips t x y (sym e ∙ h))) p
+-- ---- a choice by whether the first record stands alone
 
 module _ {A : Type 0} (P : A → Type 0) (x : A) (f : Extent → A) (n m : Extent) (e : n ≡ m) (b : Bool) (h : b ≡ isWhole n) where
   pub goes-on : b ≡ true → P x → P (pick (isWhole m) x (f m))
-  goes-on t p = taken P x (f m) (isWhole m) b (h ∙ ap isWhole e) t p
+  goes-on t p = chosen P x (f m) (isWhole m) b (h ∙ ap isWhole e) t p
 
   pub alone : b ≡ false → P (f n) → P (pick (isWhole m) x (f m))
-  alone t p = left P x (f m) (isWhole m) b (h ∙ ap isWhole e) t (subst (λ (k : Extent). P (f k)) e p)
+  alone t p = skipped P x (f m) (isWhole m) b (h ∙ ap isWhole e) t (subst (λ (k : Extent). P (f k)) e p)
 
 -- ---- no reply, and a bare one: the table stays
 
@@ -48,10 +41,3 @@ module _ (w : List ℕ) {r : Stepped} {a b : Session} where
 
 pub by-case : {A : Type 0} {p q : A} {r : Stepped} {v : List ℕ} (f : A → Turn) → p ≡ q → Gives r v (f q) → Gives r v (f p)
 by-case {A} {p} {q} {r} {v} f e g = subst (λ (x : A). Gives r v (f x)) (sym e) g
-
-pub turned : (b t : Bool) → b ≡ t → not b ≡ pick t false true
-unfolding pick
-turned true true e = refl
-turned true false e = cc
-turned false true e = cc
-turned false false e = refl

@@ -1,6 +1,5 @@
-// Messages as their records come: what begins one, whether it is one record alone, whether it wants more; and what a collected one does to
-// a
-// session and to the table.
+// Messages as their records come: what begins one, whether it is one record alone,
+// whether it wants more; and what a collected one does to a session and to the table.
 ghost use mathlib.Core.Path.{_≡_};
 ghost use mathlib.Core.List.{List};
 ghost use Prim.Native.Nat.{ℕ, _≤_, min};

@@ -7,10 +7,11 @@ use mathlib.Core.Bool.{Bool, true, false}
 use native.Mathlib.Omega.{arith}
 use native.Mathlib.Nat.{add-zero}
 use lib.Dec.{eqb}
-use lib.ListN.{length, take, drop, replicate, drop-of-length-le, length-replicate, length-take, length-drop}
+use lib.ListN.{length, take, drop, replicate, drop-of-length-le, length-replicate, length-drop}
 use lib.Seq.{drop-drop}
 use Rattle.ground.specs.Choice.{pick}
 use Rattle.ground.proofs.Bools.{picked}
+use Rattle.ground.proofs.Parts.{reaches}
 use Rattle.reply.specs.Reply.{replyLength, writtenLength}
 use Rattle.whole_file.specs.WholeFile.{Given}
 use Rattle.session.specs.Events.{Turn}
@@ -103,12 +104,6 @@ read-fits s w input g m =
     (omega (arith, t, takes-within s w input g), omega (arith, l, read-length s w input g))
 
 -- a part of the file
-reaches : (file : List ℕ) (at to : ℕ) → at ≤ to → to ≤ length file → length (take (to - at) (drop at file)) ≡ to - at
-reaches file at to h k = simp (length-take, length-drop) (omega arith)
-
-pub part-fits : (file : List ℕ) (at to : ℕ) → at < to → to ≤ length file → at + length (take (to - at) (drop at file)) ≡ to
-part-fits file at to h k = let e = reaches file at to (omega arith) k in omega arith
-
 module _ (file : List ℕ) (k at : ℕ) (s : Session) (w : List ℕ) (g : Good s w) where
   abbrev readOf : Done
   readOf = readDone s w (take k (drop at file)) zeros

@@ -6,36 +6,12 @@ use mathlib.Core.Bool.{true, false}
 use Prim.Native.Nat.{ℕ, _+_, _≤_, _<_}
 use native.Mathlib.Numerals.{add-one}
 use native.Mathlib.Omega.{arith}
-use lib.ListN.{length, drop, getD, length-drop, drop-of-length-le}
+use lib.ListN.{length, drop, getD, length-drop}
 use lib.Seq.{drop-cons}
 use Rattle.ground.specs.Choice.{both}
-use Rattle.ground.specs.Lists.{all}
 use Rattle.ground.proofs.Choices.{fails-left, decides}
-use Rattle.calendar.specs.Dates.{realDate, earlier}
+use Rattle.calendar.specs.Dates.{earlier}
 use Rattle.table.specs.Table.{rising}
-
--- ---- each date is real
-
-cons-all : (x : ℕ) (l : List ℕ) → all realDate (x ∷ l) ≡ both (realDate x) (all realDate l)
-unfolding all
-cons-all x l = refl
-
-all-at : (l : List ℕ) (i : ℕ) → i < length l → all realDate (drop i l) ≡ both (realDate (getD l i 0)) (all realDate (drop (i + 1) l))
-all-at l i h = rw (add-one i, drop-cons l i 0 h) (cons-all _ _)
-
-pub all-stop : (l : List ℕ) (i : ℕ) → i < length l → all realDate l ≡ all realDate (drop i l) → realDate (getD l i 0) ≡ false → false
-    ≡ all realDate l
-all-stop l i h v t = sym (v ∙ all-at l i h ∙ fails-left _ _ t)
-
-pub all-more : (l : List ℕ) (i : ℕ) → i < length l → all realDate l ≡ all realDate (drop i l) → realDate (getD l i 0) ≡ true
-    → all realDate l ≡ all realDate (drop (i + 1) l)
-all-more l i h v t = v ∙ all-at l i h ∙ decides _ _ t
-
-pub all-done : (l : List ℕ) (i : ℕ) → length l ≤ i → all realDate l ≡ all realDate (drop i l) → true ≡ all realDate l
-unfolding all
-all-done l i h v = sym (v ∙ rw (drop-of-length-le l {i = i} h))
-
--- ---- the dates rise
 
 cons-rising : (x y : ℕ) (l : List ℕ) → rising (x ∷ y ∷ l) ≡ both (earlier x y) (rising (y ∷ l))
 unfolding rising

@@ -7,7 +7,7 @@ use lib.Dec.{eqb, leb}
 use lib.ListN.{length}
 use Rattle.ground.specs.Choice.{either, fails, between}
 use Rattle.ground.specs.First.{firstThat}
-use Rattle.calendar.specs.Dates.{dated, realDate, isBefore}
+use Rattle.calendar.specs.Dates.{dated, isReal, isBefore}
 use Rattle.calendar.specs.declared.Date.{Date}
 use Rattle.keys.specs.Parity.{oddParity}
 use Rattle.keys.specs.Keys.{combined, checkValue, nextGeneration}
@@ -36,7 +36,7 @@ noTable b = fails (isTable b)
 
 -- 4: date not real, or day before the table's
 unfoldable pub badDay : Table → (today : Date) → Bool
-badDay t today = either (fails (realDate (today .yymmdd))) (isBefore today (dated (t .day)))
+badDay t today = either (fails (isReal today)) (isBefore today (dated (t .day)))
 
 -- 5: 33rd customer
 unfoldable pub tableFull : Table → Bool

@@ -12,8 +12,9 @@ use lib.Seq.{length-take-le, take-at, take-nil, drop-nil, drop-append-add}
 use Rattle.ground.specs.Choice.{pick}
 use Rattle.ground.specs.Lists.{part}
 use Rattle.ground.proofs.Choices.{picks, skips}
-use Rattle.ground.proofs.Lists.{part-full, pick-length}
+use Rattle.ground.proofs.Lists.{pick-length}
 use Rattle.ground.proofs.Bools.{picked}
+use Rattle.ground.proofs.Parts.{part-length}
 use Rattle.text.specs.Characters.{blank}
 use Rattle.text.specs.Letters.{letters}
 use Rattle.text.proofs.Laws.{decimalDigits-length}
@@ -66,7 +67,7 @@ laid-out (lays {f} {e} {fs} {es} p h l) n =
 fit : (n : ℕ) (m : List ℕ) → length m ≡ 161 → leb (offsetIn n fields + widthIn n fields) 161 ≡ true → length (fieldText n m)
     ≡ widthIn n fields
 unfolding fieldText
-fit n m h t = part-full (offsetIn n fields) (widthIn n fields) m (omega (arith, leb-true (offsetIn n fields + widthIn n fields) 161 t))
+fit n m h t = part-length m (offsetIn n fields) (widthIn n fields) (omega (arith, leb-true (offsetIn n fields + widthIn n fields) 161 t))
 
 receipt-laid : (pte : Bool) → Laid (drop 24 fields) (pick pte (said 210 (replicate 80 blank) ∷ []) [])
 unfolding pick

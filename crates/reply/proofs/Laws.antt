@@ -12,8 +12,9 @@ use lib.Seq.{take-at, drop-at, take-all}
 use Rattle.ground.specs.Choice.{pick}
 use Rattle.ground.specs.Lists.{part, overlay}
 use Rattle.ground.proofs.Choices.{picks, skips}
-use Rattle.ground.proofs.Lists.{part-full, pick-length}
+use Rattle.ground.proofs.Lists.{pick-length}
 use Rattle.ground.proofs.Bools.{picked}
+use Rattle.ground.proofs.Parts.{part-between, part-length}
 use Rattle.text.specs.Characters.{blank}
 use Rattle.text.specs.Letters.{letters}
 use Rattle.text.specs.Numbers.{decimalDigits, hexDigits}
@@ -104,12 +105,6 @@ module _ (a : Answering) (bank : length (a .bank) ≡ 25) (software : length (a 
 
 -- ---- what stands in the fields
 
--- a part that stands between others
-between : (x v y l : List ℕ) (at n : ℕ) → l ≡ x ++ (v ++ y) → length x ≡ at → length v ≡ n → part at n l ≡ v
-unfolding part
-between x v y l at n e f g =
-    ap (λ (r : List ℕ). take n (drop at r)) e ∙ ap (take n) (drop-at x (v ++ y) at f) ∙ take-at v y n g
-
 -- the opening's first three fields take eleven characters, and field 4 follows
 abbrev tag : Answering → List ℕ
 tag a = pick (a .pte) (letters ">>PTE") (letters ">>ESI") ++ pick (a .pte) (letters "317") (letters "237") ++ letters "120"
@@ -132,7 +127,7 @@ unfolding replyOf joined
 opened a = simp append-assoc
 
 pub success-is : (a : Answering) → part 11 1 (replyOf a) ≡ success a
-success-is a = between (tag a) (success a) _ (replyOf a) 11 1 (opened a) (tag-length (a .pte)) (success-length a)
+success-is a = part-between (tag a) (success a) _ (replyOf a) 11 1 (opened a) (tag-length (a .pte)) (success-length a)
 
 only-k : (t : Bool) → pick t (letters "K") (letters "E") ≡ letters "K" → t ≡ true
 unfolding pick letters
@@ -165,11 +160,10 @@ before-stamp-length m h =
     ∙ simp length-append
     (omega (
       arith,
-      part-full 60 25 m (omega arith),
-      part-full 35 25 m (omega arith),
-      part-full 85 1 m (omega arith),
-      part-full
-          86 1 m (omega arith),
+      part-length m 60 25 (omega arith),
+      part-length m 35 25 (omega arith),
+      part-length m 85 1 (omega arith),
+      part-length m 86 1 (omega arith),
     ))
 
 module _ (a : Answering) (full : a .bare ≡ false) where
@@ -195,17 +189,17 @@ module _ (a : Answering) (full : a .bare ≡ false) where
     -- field 8 repeats the message's sender
     pub reply-sender : part 35 25 (replyOf a) ≡ senderOf (a .message)
     reply-sender =
-        between (joined (openingFields a)) (senderOf (a .message)) _ (replyOf a) 35 25 full-split (opening-length a software)
-        (ap length (sender-part (a .message)) ∙ part-full 60 25 (a .message) (omega arith))
+        part-between (joined (openingFields a)) (senderOf (a .message)) _ (replyOf a) 35 25 full-split (opening-length a software)
+        (ap length (sender-part (a .message)) ∙ part-length (a .message) 60 25 (omega arith))
 
     -- field 12 repeats the message's stamp
     pub reply-stamp : part 87 15 (replyOf a) ≡ stampTextOf (a .message)
     reply-stamp =
         let m = a .message in
         let x : List ℕ = senderOf m ++ receiverOf m ++ fieldText 100 m ++ fieldText 110 m in
-        between (joined (openingFields a) ++ x) (stampTextOf m) after-stamp (replyOf a) 87 15 (full-split ∙ simp append-assoc)
+        part-between (joined (openingFields a) ++ x) (stampTextOf m) after-stamp (replyOf a) 87 15 (full-split ∙ simp append-assoc)
         (length-append (joined (openingFields a)) x ∙ omega (arith, opening-length a software, before-stamp-length m message))
-        (ap length (stamp-part m) ∙ part-full 87 15 m (omega arith))
+        (ap length (stamp-part m) ∙ part-length m 87 15 (omega arith))
 
   module _ (bank : length (a .bank) ≡ 25) (software : length (a .software) ≡ 16) (message : length (a .message) ≡ 161)
       (closing : length (a .closing) ≡ 161) (k : ℕ) (key : a .working ≡ Is k) where
@@ -220,7 +214,7 @@ module _ (a : Answering) (full : a .bare ≡ false) where
     reply-sum =
         let n : length (head a) ≡ 144 = head-length a bank software message closing in
         let h : take 144 (replyOf a) ≡ head a = ap (take 144) (reply-split a) ∙ take-at (head a) _ 144 n in
-        between (head a) (hexOr (checksumKey a (head a))) (rest a) (replyOf a) 144 16 (reply-split a) n
+        part-between (head a) (hexOr (checksumKey a (head a))) (rest a) (replyOf a) 144 16 (reply-split a) n
         (hex-or-length (checksumKey a (head a)))
         ∙ ap hexOr summed-is
         ∙ ap (λ (x : List ℕ). hexDigits 16 (checksumOf k x)) (sym h)

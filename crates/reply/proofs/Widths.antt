@@ -9,7 +9,8 @@ use native.Mathlib.Omega.{arith}
 use lib.ListN.{length, take, drop, replicate, length-append, take-append-drop}
 use Rattle.ground.specs.Choice.{pick}
 use Rattle.ground.specs.Lists.{part}
-use Rattle.ground.proofs.Lists.{part-full, part-join, pick-length}
+use Rattle.ground.proofs.Lists.{pick-length}
+use Rattle.ground.proofs.Parts.{part-length, part-join}
 use Rattle.text.specs.Characters.{blank, padded}
 use Rattle.text.specs.Numbers.{decimalDigits}
 use Rattle.text.specs.Letters.{letters}
@@ -140,12 +141,11 @@ full-length a h k =
     ∙ simp length-append
     (omega (
       arith,
-      part-full 60 25 m (omega arith),
-      part-full 35 25 m (omega arith),
-      part-full 85 18 m (omega arith),
-      part-full
-          112 16 m (omega arith),
-      part-full 128 16 (a .closing) (omega arith),
+      part-length m 60 25 (omega arith),
+      part-length m 35 25 (omega arith),
+      part-length m 85 18 (omega arith),
+      part-length m 112 16 (omega arith),
+      part-length (a .closing) 128 16 (omega arith),
     ))
 
 -- ---- the notice

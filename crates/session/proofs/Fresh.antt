@@ -1,5 +1,5 @@
--- A session that was just opened fits its type, and encodes where its opening's numbers do; so does one that is not open: all else in them
--- is zero.
+-- A session that was just opened fits its type, and encodes where its opening's numbers do;
+-- so does one that is not open: all else in them is zero.
 -- Assumes nothing.
 use Prim.Native.Nat.{ℕ, _<_, _^_}
 use mathlib.Core.Path.{_≡_, refl, ap, _∙_, subst, sym}

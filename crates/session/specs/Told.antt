@@ -1,5 +1,5 @@
--- All that the machine says over the bytes to come and the file's end, each reply with the number of bytes up to it, and the table it
--- leaves.
+-- All that the machine says over the bytes to come and the file's end,
+-- each reply with the number of bytes up to it, and the table it leaves.
 -- Assumes nothing.
 use Prim.Native.Nat.{ℕ, _+_}
 use mathlib.Core.List.{List, [], _∷_, _++_}

@@ -4,18 +4,17 @@
 use Prim.Native.Nat.{ℕ, suc, _+_, _^_, _<_, _≤_}
 use mathlib.Core.Path.{_≡_, refl, sym, ap, _∙_, subst}
 use mathlib.Core.Bool.{Bool, true, false}
-use mathlib.Core.List.{List, _++_}
+use mathlib.Core.List.{List}
 use mathlib.Core.Option.{none, some}
 use native.Mathlib.Omega.{arith}
 use lib.Dec.{eqb}
-use lib.ListN.{length, take, drop}
-use lib.Seq.{take-at, drop-at}
+use lib.ListN.{length}
 use Rattle.ground.specs.Choice.{both, pick}
 use Rattle.ground.specs.Lists.{part}
 use Rattle.ground.proofs.Choices.{left, right}
 use Rattle.ground.proofs.Bools.{picked}
+use Rattle.ground.proofs.Parts.{first-of, rest-of, part-length, part-all}
 use Rattle.splices.specs.Bytes.{num, bytesOf}
-use Rattle.splices.proofs.Splice.{part-length, part-add, part-all}
 use Rattle.splices.proofs.Chunks.{num-lt, bytesOf-bytes, bytesOf-length}
 use Rattle.codec.specs.Layout.{Shape, number, named, text, numbers, many, perhaps, within, _⊗_, width, enc, dec, Fits}
 use Rattle.codec.proofs.Laws.{wide, dec-sized}
@@ -33,17 +32,6 @@ below : (k n : ℕ) (x : List ℕ) → x ≡ bytesOf k n → num x < 256 ^ k
 below k n x e =
     subst (λ (y : List ℕ). num y < 256 ^ k) (sym e)
     (subst (λ (j : ℕ). num (bytesOf k n) < 256 ^ j) (bytesOf-length k n) (num-lt (bytesOf k n) (bytesOf-bytes k n)))
-
--- a part that is two lists, one after the other, is the two parts
-module _ (l a b : List ℕ) (o n m : ℕ) (k : o + n ≤ length l) (e : length a ≡ n) (h : part o (n + m) l ≡ a ++ b) where
-  both-parts : part o n l ++ part (o + n) m l ≡ a ++ b
-  both-parts = sym (part-add l o n m) ∙ h
-
-  first-of : part o n l ≡ a
-  first-of = sym (take-at (part o n l) (part (o + n) m l) n (part-length l o n k)) ∙ ap (take n) both-parts ∙ take-at a b n e
-
-  rest-of : part (o + n) m l ≡ b
-  rest-of = sym (drop-at (part o n l) (part (o + n) m l) n (part-length l o n k)) ∙ ap (drop n) both-parts ∙ drop-at a b n e
 
 -- ---- what is written as these bytes fits them
 
@@ -78,7 +66,7 @@ written-fits (perhaps s) p o l h e = go (eqb (num (part o 1 l)) 1) e (written-fi
     go true f r =
         let g : 1 + width s ≡ suc (width s) = omega arith in
         let x = enc s (dec s (o + 1) l) in
-        r (rest-of l (bytesOf 1 1) x o 1 (width s) (omega arith) (bytesOf-length 1 1) (ap (λ (k : ℕ). part o k l) g ∙ f))
+        r (rest-of l (bytesOf 1 1) x o 1 (width s) (bytesOf-length 1 1) (ap (λ (k : ℕ). part o k l) g ∙ f))
     go false f r = tt
 written-fits (within s) p o l h e = written-fits s p o l h e
 written-fits (s ⊗ t) p o l h e =
@@ -86,9 +74,9 @@ written-fits (s ⊗ t) p o l h e =
     let x = dec s o l in
     let y = dec t (o + width s) l in
     let n = wide s x (dec-sized s o l k) in (
-      written-fits s (left (plain s) (plain t) p) o l k (first-of l (enc s x) (enc t y) o (width s) (width t) k n e),
+      written-fits s (left (plain s) (plain t) p) o l k (first-of l (enc s x) (enc t y) o (width s) (width t) n e),
       written-fits t (right (plain s) (plain t) p) (o + width s) l (omega arith)
-          (rest-of l (enc s x) (enc t y) o (width s) (width t) k n e),
+          (rest-of l (enc s x) (enc t y) o (width s) (width t) n e),
     )
 
 -- ---- any bytes

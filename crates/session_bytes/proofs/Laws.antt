@@ -10,7 +10,7 @@ use lib.Dec.{eqb}
 use lib.ListN.{length}
 use Rattle.ground.specs.Lists.{same}
 use Rattle.ground.proofs.Choices.{left, right, join, picks, skips, same-eq, eq-same}
-use Rattle.splices.proofs.Splice.{part-all}
+use Rattle.ground.proofs.Parts.{part-all}
 use Rattle.codec.specs.Layout.{width}
 use Rattle.codec.proofs.Laws.{wide, fits-sized}
 use Rattle.codec.proofs.Laws as codec

@@ -9,12 +9,14 @@ use borrow.Author.Tests.{eq-eqb, ne-eqb, ltb-true, lt-ltb}
 use lib.Dec.{eqb, ltb}
 use lib.ListN.{length, getD}
 use Rattle.ground.specs.Choice.{both}
-use Rattle.ground.specs.Lists.{part, same}
+use Rattle.ground.specs.Lists.{part, same, Each}
 use Rattle.ground.proofs.Choices.{left, right, join, fails-left, fails-right, decides}
+use Rattle.ground.proofs.Bools.{decided, both-true}
+use Rattle.ground.proofs.Parts.{part-all, part1, part4}
 use Rattle.splices.specs.Bytes.{num}
-use Rattle.splices.proofs.Splice.{AllBytes, part-all, part1, part4}
-use Rattle.codec.specs.Layout.{perhaps, Each, width, enc, dec, ok}
-use Rattle.codec.proofs.Laws.{exact, last-test}
+use Rattle.splices.proofs.Splice.{AllBytes}
+use Rattle.codec.specs.Layout.{perhaps, width, enc, dec, ok}
+use Rattle.codec.proofs.Laws.{exact}
 use Rattle.session_bytes.specs.Session.{sessionSize, extentShape, onceShape, sessionShape, sessionBytes, sessionOf, isSession}
 use Rattle.session_bytes.proofs.Fields.{fields-back}
 
@@ -32,7 +34,7 @@ one-fails (t ∷ ts) (suc k) e = fails-right t (every ts) (one-fails ts k e)
 
 last-decides : (ts : List Bool) (t : Bool) → Each (λ (x : Bool). x ≡ true) ts → every (ts ++ (t ∷ [])) ≡ t
 unfolding every
-last-decides [] t h = last-test t
+last-decides [] t h = both-true t
 last-decides (x ∷ ts) t h = decides x (every (ts ++ (t ∷ []))) (h .0) ∙ last-decides ts t (h .1)
 
 -- the number of w bytes at o is below n
@@ -47,12 +49,6 @@ numbers l =
 -- and the one-time key
 abbrev pub tests : List ℕ → List Bool
 tests l = numbers l ++ (ok (perhaps onceShape) 394 l ∷ [])
-
--- two tests that follow from each other
-agree : (t u : Bool) → (t ≡ true → u ≡ true) → (u ≡ true → t ≡ true) → t ≡ u
-agree true u p q = sym (p refl)
-agree false true p q = q refl
-agree false false p q = refl
 
 -- four bytes, of which all but the lowest are zero
 module _ (l : List ℕ) (n : length l ≡ sessionSize) where
@@ -77,7 +73,7 @@ module _ (l : List ℕ) (n : length l ≡ sessionSize) where
       let b = num (part 229 1 l) in
       let c = num (part 230 1 l) in
       let d = num (part 231 1 l) in
-      agree (ok extentShape 228 l) (ltb x 5)
+      decided (ok extentShape 228 l) (ltb x 5)
       (λ e.
       let f = right (ltb a 5) (both (ltb b 1) (both (ltb c 1) (ltb d 1))) e in
       let g = right (ltb b 1) (both (ltb c 1) (ltb d 1)) f in

@@ -8,12 +8,12 @@ use native.Mathlib.Omega.{arith}
 use borrow.Author.Tests.{eqb-true, eq-eqb, ne-eqb}
 use lib.ListN.{length, take, drop, length-map, take-append-drop}
 use lib.Seq.{take-at}
-use Rattle.ground.specs.Lists.{all, part, same}
+use Rattle.ground.specs.Lists.{all, part, same, Each}
 use Rattle.ground.proofs.Choices.{left, right, join, picks, skips, same-eq, eq-same}
+use Rattle.ground.proofs.Parts.{part-start}
 use Rattle.calendar.specs.Dates.{realDate}
 use Rattle.splices.specs.Bytes.{num}
-use Rattle.splices.proofs.Splice
-use Rattle.codec.specs.Layout.{number, Value, width, enc, dec, Each, Fits}
+use Rattle.codec.specs.Layout.{number, Value, width, enc, dec, Fits}
 use Rattle.codec.proofs.Laws.{wide, back}
 use Rattle.customer_bytes.specs.Layout.{customerShape, settingsShape, customerFrom, customerTo, settingsFrom, settingsAt}
 use Rattle.customer_bytes.proofs.Laws.{customer-there}
@@ -101,7 +101,7 @@ module _ (t : Table) (e : soundTable t ≡ true) (r b : List ℕ) (is : b ≡ en
   unfolding encode
   part-is =
       let s = tableShape (length (t .holidays)) (length (t .customers)) in
-      Splice.part-start b (width s)
+      part-start b (width s)
       ∙ ap (take (width s)) is
       ∙ take-at (enc s (tableTo t)) r (width s) (wide s (tableTo t) (Encode.sound-fit t e))
 

@@ -9,7 +9,8 @@ use borrow.Author.Tests.{eqb-true}
 use lib.ListN.{length, drop, length-append, length-drop, length-map}
 use lib.Seq.{drop-at}
 use Rattle.ground.proofs.Choices.{left, right}
-use Rattle.codec.specs.Layout.{number, width, Each, Sized}
+use Rattle.ground.specs.Lists.{Each}
+use Rattle.codec.specs.Layout.{number, width, Sized}
 use Rattle.codec.proofs.Laws.{wide}
 use Rattle.customer_bytes.specs.Layout.{customerShape, settingsShape, customerTo, settingsTo}
 use Rattle.customer_bytes.proofs.Laws.{customer-sized}

@@ -10,10 +10,10 @@ use lib.ListN.{length, take}
 use Rattle.ground.specs.Choice.{both}
 use Rattle.ground.specs.Lists.{all, part, same}
 use Rattle.ground.proofs.Choices.{left, right, join, same-eq, eq-same}
-use Rattle.ground.proofs.Bools.{clash, refuted}
+use Rattle.ground.proofs.Bools.{clash, refuted, decided}
+use Rattle.ground.proofs.Parts.{part-length, part-start}
 use Rattle.calendar.specs.Dates.{realDate}
 use Rattle.splices.specs.Bytes.{num}
-use Rattle.splices.proofs.Splice
 use Rattle.splices.proofs.Splice.{AllBytes}
 use Rattle.codec.specs.Layout.{number, many, Value, width, enc, every, dec, ok}
 use Rattle.codec.proofs.Laws.{exact, dec-fits}
@@ -31,7 +31,6 @@ use Rattle.table.proofs.Sound
 use Rattle.table.proofs.Decode
 use Rattle.table.proofs.Decode.{tableAt, table-sized}
 use Rattle.table.proofs.Turns
-use Rattle.table.proofs.Turns.{decided}
 
 -- ---- what the header says
 
@@ -263,12 +262,12 @@ module _ (b : List ℕ) (bs : AllBytes b) (f : Facts b) where
   unfolding isTable t
   table-from =
       let T = totalLength (holidayCount b) (customerCount b) in
-      let l : length (encode t) ≡ T = ap length encode-is ∙ Splice.part-length b 0 T (omega (arith, f .size)) in
+      let l : length (encode t) ≡ T = ap length encode-is ∙ part-length b 0 T (omega (arith, f .size)) in
       let is : tableOf b ≡ t = table-sized b (f .size) in
       join _ _ (eq-eqb (length b) tableSize (f .size))
       (join _ _ (ap soundTable is ∙ sound-is)
       (ap (λ (u : Table). same (encode u) (take (length (encode u)) b)) is
-      ∙ eq-same _ _ (encode-is ∙ Splice.part-start b T ∙ ap (λ (k : ℕ). take k b) (sym l))))
+      ∙ eq-same _ _ (encode-is ∙ part-start b T ∙ ap (λ (k : ℕ). take k b) (sym l))))
 
 -- ---- what the tests return
 

@@ -8,10 +8,10 @@ use native.Mathlib.Omega.{arith}
 use lib.ListN.{length, getD, set, replicate, length-append, length-take, length-set, length-replicate, getD-replicate}
 use lib.ListN.{List·getD-append}
 use lib.Seq.{ext-getD, getD-take, getD-append-add, getD-set-other}
-use Rattle.calendar.proofs.Walk.{below}
 use Rattle.ground.specs.Lists.{part}
+use Rattle.ground.proofs.Numbers.{below}
+use Rattle.ground.proofs.Lists.{filled-more}
 use Rattle.splices.specs.Bytes.{num}
-use Rattle.splices.proofs.Chunks
 use Rattle.table.specs.Tests.{datesAt, filled}
 use Rattle.table.proofs.Turns
 
@@ -39,7 +39,7 @@ some-more at n i b out v m h e s =
     record {
       within = omega arith;
       long = length-set out i v ∙ s .long;
-      these = Chunks.filled-more (λ (k : ℕ). num (part (at + 4 * k) 4 b)) out i v (omega (arith, s .long)) e (s .these);
+      these = filled-more (λ (k : ℕ). num (part (at + 4 * k) 4 b)) out i v (omega (arith, s .long)) e (s .these);
       zeros = λ k j q. getD-set-other out i k v 0 (λ x. omega arith) ∙ s .zeros k (omega arith) q;
     }
 

@@ -2,14 +2,16 @@
 -- Assumes nothing.
 use mathlib.Core.Path.{_≡_, refl, sym, ap, _∙_}
 use mathlib.Core.List.{List, [], _∷_}
-use mathlib.Core.Bool.{Bool, true, false}
+use mathlib.Core.Bool.{Bool, true}
 use Prim.Native.Nat.{ℕ, zero, suc, _+_, _*_, _<_}
 use native.Mathlib.Nat.{add-zero, not-suc-le-zero, le-of-suc-le-suc}
 use native.Mathlib.Omega.{arith}
 use lib.ListN.{length, getD, length-map}
 use Rattle.ground.specs.Choice.{both, pick}
 use Rattle.ground.specs.Lists.{all, part, same}
-use Rattle.ground.proofs.Choices.{decides, same-eq, eq-same}
+use Rattle.ground.proofs.Choices.{decides}
+use Rattle.ground.proofs.Bools.{both-turn, both-true}
+use Rattle.ground.proofs.Lists.{same-turned}
 use Rattle.calendar.specs.Dates.{realDate, earlier}
 use Rattle.splices.specs.Bytes.{num}
 use Rattle.codec.specs.Layout.{number, many, width, repeated, dec}
@@ -75,19 +77,6 @@ getD-customers (suc n) p b (suc i) d h =
 
 -- ---- what a turn tells of the definitions
 
--- tests in another order
-both-turn : (a b c d : Bool) → both (both a b) (both c d) ≡ both a (both c (both b d))
-unfolding both
-both-turn false b c d = refl
-both-turn true true c d = refl
-both-turn true false true d = refl
-both-turn true false false d = refl
-
-both-true : (a : Bool) → both (both a true) true ≡ a
-unfolding both
-both-true true = refl
-both-true false = refl
-
 pub dates-step : (x p n m : ℕ) (b : List ℕ) → n ≡ suc m
     → okDates (x ∷ datesAt p n b) ≡
     both (realDate x) (both (earlier x (num (part p 4 b))) (okDates (num (part p 4 b) ∷ datesAt (p + 4) m b)))
@@ -104,20 +93,11 @@ dates-turn x y p n m b e r f =
 
 pub dates-end : (x p n : ℕ) (b : List ℕ) → n ≡ 0 → okDates (x ∷ datesAt p n b) ≡ realDate x
 unfolding okDates all rising
-dates-end x p n b e = rw (dates-none p n b e) (both-true (realDate x))
+dates-end x p n b e = rw (dates-none p n b e) (both-true _ ∙ both-true (realDate x))
 
 pub dates-empty : (p n : ℕ) (b : List ℕ) → n ≡ 0 → true ≡ okDates (datesAt p n b)
 unfolding okDates all rising both
 dates-empty p n b e = rw (dates-none p n b e)
-
--- two tests that decide the same
-pub decided : (v u : Bool) → (v ≡ true → u ≡ true) → (u ≡ true → v ≡ true) → v ≡ u
-decided true u f g = sym (f refl)
-decided false true f g = g refl
-decided false false f g = refl
-
-same-turned : (a b : List ℕ) → same a b ≡ same b a
-same-turned a b = decided (same a b) (same b a) (λ e. eq-same b a (sym (same-eq a b e))) (λ e. eq-same a b (sym (same-eq b a e)))
 
 pub place-step : (i : ℕ) (x : List ℕ) (p n m : ℕ) (b : List ℕ) → n ≡ suc m
     → placeFrom i x (customersAt p n b) ≡ pick (same x (part p 25 b)) (At i) (placeFrom (i + 1) x (customersAt (p + recordWidth) m b))

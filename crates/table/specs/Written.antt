@@ -1,5 +1,5 @@
--- The bytes that a table is written as, field by field in the order of docs/FORMAT.md, and what 'no table is written as these bytes'
--- (refusal 2) means.
+-- The bytes that a table is written as, field by field in the order of docs/FORMAT.md,
+-- and what 'no table is written as these bytes' (refusal 2) means.
 -- Assumes nothing.
 use Prim.Native.Nat.{ℕ, _+_, _*_}
 use mathlib.Core.Path.{_≡_}

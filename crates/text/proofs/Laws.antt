@@ -15,10 +15,10 @@ use Rattle.ground.proofs.Choices.{join, either-left, either-decides, either-cas
 use Rattle.ground.proofs.Lists.{member-lt}
 use Rattle.ground.proofs.Choices.{fails-true}
 use Rattle.ground.proofs.Bools.{agreed, picked, refuted}
+use Rattle.ground.proofs.Table.{each}
 use Rattle.text.specs.Characters.{blank, digit, small, marks, fieldCharacter, internal, hexDigit, padded}
 use Rattle.text.specs.Numbers.{digitValue, hexValue, decimal, decimalFrom, hex, hexFrom, hexCharacter, hexDigits, decimalDigits}
 use Rattle.text.proofs.Base as base
-use Rattle.text.proofs.Lists as lists
 
 -- ---- the field characters
 
@@ -42,7 +42,7 @@ pub field-ranges : (x : ℕ) → x < 256 → fieldCharacter x ≡ ranges x
 unfolding fieldCharacter both either fails pick between member
 field-ranges x h =
     agreed (fieldCharacter x) (ranges x)
-    (lists.each (λ k. pick (fieldCharacter k) (ranges k) (fails (ranges k))) 256 tt x h)
+    (each (λ k. pick (fieldCharacter k) (ranges k) (fails (ranges k))) 256 tt x h)
 
 raised : (x : ℕ) → (0x61 ≤ x) × (x ≤ 0x7A) → fieldCharacter (x - 0x20) ≡ true
 unfolding fieldCharacter
@@ -61,7 +61,7 @@ internal-field x =
 -- no small letter is a field character
 small-not : (x : ℕ) → x < 0x7B → both (fieldCharacter x) (small x) ≡ false
 unfolding fieldCharacter both either fails between member
-small-not x h = fails-true (both (fieldCharacter x) (small x)) (lists.each (λ k. fails (both (fieldCharacter k) (small k))) 0x7B tt x h)
+small-not x h = fails-true (both (fieldCharacter x) (small x)) (each (λ k. fails (both (fieldCharacter k) (small k))) 0x7B tt x h)
 
 pub field-internal : (x : ℕ) → fieldCharacter x ≡ true → internal x ≡ x
 unfolding internal
@@ -107,7 +107,7 @@ hex-digit-byte c e =
 -- each test below holds at every digit
 pub digit-back : (d : ℕ) → d < 10 → digitValue (0x30 + d) ≡ d
 unfolding digitValue both pick between
-digit-back d h = eqb-true (digitValue (0x30 + d)) d (lists.each (λ k. eqb (digitValue (0x30 + k)) k) 10 tt d h)
+digit-back d h = eqb-true (digitValue (0x30 + d)) d (each (λ k. eqb (digitValue (0x30 + k)) k) 10 tt d h)
 
 pub digit-there : (c : ℕ) → digit c ≡ true → 0x30 + digitValue c ≡ c
 unfolding digitValue
@@ -115,14 +115,14 @@ digit-there c e = rw (picks (digit c) (c - 0x30) 0 e) (omega (arith, digit-byte 
 
 pub hex-digit-back : (d : ℕ) → d < 16 → hexValue (hexCharacter d) ≡ d
 unfolding hexValue hexCharacter hexDigit both either pick between
-hex-digit-back d h = eqb-true (hexValue (hexCharacter d)) d (lists.each (λ k. eqb (hexValue (hexCharacter k)) k) 16 tt d h)
+hex-digit-back d h = eqb-true (hexValue (hexCharacter d)) d (each (λ k. eqb (hexValue (hexCharacter k)) k) 16 tt d h)
 
 pub hex-digit-there : (c : ℕ) → hexDigit c ≡ true → hexCharacter (hexValue c) ≡ c
 unfolding hexValue hexCharacter hexDigit both either pick between
 hex-digit-there c e =
     eqb-true (hexCharacter (hexValue c)) c
     (sym (picks (hexDigit c) (eqb (hexCharacter (hexValue c)) c) true e)
-    ∙ lists.each (λ k. pick (hexDigit k) (eqb (hexCharacter (hexValue k)) k) true) 0x47 tt c (hex-digit-byte c e))
+    ∙ each (λ k. pick (hexDigit k) (eqb (hexCharacter (hexValue k)) k) true) 0x47 tt c (hex-digit-byte c e))
 
 -- ---- numbers in digits
 

@@ -1,6 +1,5 @@
-// Runs a script of calls on the seven calls of the front end, and writes what each of them answers. The independent model in rust/model
-// runs the
-// same script (its binary `script`, which also makes it); what it writes is this program's stdout.
+// Runs a script of calls on the seven calls of the front end, and writes what each of them answers. The independent model
+// in rust/model runs the same script (its binary `script`, which also makes it); what it writes is this program's stdout.
 mod lines;
 mod reading;
 mod registering;

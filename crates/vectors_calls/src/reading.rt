@@ -9,9 +9,8 @@ pub struct Hand {
     pub taken: usize,
 }
 
-// What a line asks for: a whole file from its first byte on, or one call; ends, or reads of so many bytes at most; with that room; so much
-// of
-// each reply is shown.
+// What a line asks for: a whole file from its first byte on, or one call;
+// ends, or reads of so many bytes at most; with that room; so much of each reply is shown.
 pub struct Asked {
     pub whole: bool,
     pub ending: bool,
@@ -104,8 +103,8 @@ fn turn(t: &mut [u8], file: &[u8], h: Hand, asked: Asked, line: &[u8]) -> Turned
     next
 }
 
-// One call; or reads from the file's first byte on, and ends, until one says finished or is refused. The turns fall, since a loop has to
-// end.
+// One call; or reads from the file's first byte on, and ends,
+// until one says finished or is refused. The turns fall, since a loop has to end.
 pub fn calls_of(t: &mut [u8], file: &[u8], h: Hand, first: Asked, line: &[u8]) -> Hand {
     let mut hand = h;
     let mut asked = first;

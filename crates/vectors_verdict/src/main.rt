@@ -1,12 +1,10 @@
 // Every code of both orders, and every two neighbouring checks that can fail together: each line says what is wrong, then the code and the
 // field that it names. (1015 and 1016, and on a sound table 1017 and 1031, never fail together.)
 //
-// A case is a line of parts between bars: its marks; what is wrong; two texts put into the ESI or VAR before its checksum is made, and one
-// after; two texts put into the SUO. A text follows its place, three digits. The marks: E or F for an ESI or a frame; the data type; 0, or
-// 1
-// to 3 for a SUO that is one record alone; the same for the ESI or VAR; the one-time key (O right, U used, P of even parity, M none held);
-// the
-// data's digest (D, or N where there are no characters).
+// A case is a line of parts between bars: its marks; what is wrong; two texts put into the ESI or VAR before its checksum is made,
+// and one after; two texts put into the SUO. A text follows its place, three digits. The marks:
+// E or F for an ESI or a frame; the data type; 0, or 1 to 3 for a SUO that is one record alone; the same for the ESI or VAR;
+// the one-time key (O right, U used, P of even parity, M none held); the data's digest (D, or N where there are no characters).
 ghost use Prim.Native.Nat.{_≤_};
 ghost use lib.ListN.{length};
 

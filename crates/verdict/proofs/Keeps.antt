@@ -1,15 +1,15 @@
 -- What acceptance keeps of a record, and that its numbers fit: each answer leaves the record as it was but for its working keys.
 -- Assumes nothing.
 use mathlib.Core.Path.{_≡_, refl, ap, _∙_}
-use mathlib.Core.Bool.{Bool, true, false}
+use mathlib.Core.Bool.{Bool, true}
 use mathlib.Core.List.{List, [], _∷_, _++_}
-use Prim.Native.Nat.{ℕ, zero, suc, _^_, _<_}
+use Prim.Native.Nat.{ℕ, _^_, _<_}
 use native.Mathlib.Omega.{arith}
 use borrow.Author.Tests.{lt-ltb, eq-eqb}
 use lib.ListN.{length, take, replicate}
-use Rattle.ground.specs.Choice.{pick}
 use Rattle.ground.specs.Lists.{all}
 use Rattle.ground.proofs.Choices.{left, right, join}
+use Rattle.ground.proofs.Lists.{all-append, all-take, all-zeros, all-pick}
 use Rattle.calendar.specs.declared.Date.{Date}
 use Rattle.keys.specs.declared.KeyMaker.{KeyMaker}
 use Rattle.keys.proofs.Laws.{made-lt, seed-lt}
@@ -98,32 +98,11 @@ grant-seed-lt c maker clock today generation request h =
 -- ---- lists of such numbers
 
 module _ (f : ℕ → Bool) where
-  all-append : (a b : List ℕ) → all f a ≡ true → all f b ≡ true → all f (a ++ b) ≡ true
-  unfolding all
-  all-append [] b p q = q
-  all-append (x ∷ a) b p q = join _ _ (left _ _ p) (all-append a b (right _ _ p) q)
-
-  all-take : (n : ℕ) (l : List ℕ) → all f l ≡ true → all f (take n l) ≡ true
-  unfolding all
-  all-take zero l p = refl
-  all-take (suc n) [] p = refl
-  all-take (suc n) (x ∷ l) p = join _ _ (left _ _ p) (all-take n l (right _ _ p))
-
-  all-zeros : (n : ℕ) → f 0 ≡ true → all f (replicate n 0) ≡ true
-  unfolding all
-  all-zeros zero p = refl
-  all-zeros (suc n) p = join _ _ p (all-zeros n p)
-
-  all-pick : (b : Bool) (x : ℕ) (l : List ℕ) → f x ≡ true → all f l ≡ true → all f (pick b l (x ∷ l)) ≡ true
-  unfolding all pick
-  all-pick true x l p q = q
-  all-pick false x l p q = join _ _ p q
-
   all-live : (hs : List ℕ) (today : Date) (ss xs : List ℕ) → all f xs ≡ true → all f (liveOf hs today ss xs) ≡ true
   unfolding all liveOf
   all-live hs today [] xs p = refl
   all-live hs today (s ∷ ss) [] p = refl
-  all-live hs today (s ∷ ss) (x ∷ xs) p = all-pick _ x _ (left _ _ p) (all-live hs today ss xs (right _ _ p))
+  all-live hs today (s ∷ ss) (x ∷ xs) p = all-pick f _ x _ (left _ _ p) (all-live hs today ss xs (right _ _ p))
 
 once-fits : (hs : List ℕ) (today : Date) (c : Customer) (once : ℕ) → all word (c .once) ≡ true → once < 2 ^ 64
     → all word (inPlaces (liveOnce hs today c ++ (once ∷ []))) ≡ true
@@ -131,8 +110,8 @@ unfolding all
 once-fits hs today c once p h =
     let l = liveOnce hs today c in
     all-take word 64 ((l ++ (once ∷ [])) ++ replicate 64 0)
-    (all-append word (l ++ (once ∷ [])) (replicate 64 0)
-    (all-append word l (once ∷ [])
+    (all-append word (l ++ (once ∷ [])) (replicate 64 0) ∙ join _ _
+    (all-append word l (once ∷ []) ∙ join _ _
     (all-live word hs today (take (c .count) (c .stamps)) (take (c .count) (c .once)) (all-take word (c .count) (c .once) p))
     (join (word once) true (word-true once h) refl))
     (all-zeros word 64 (word-true 0 (omega arith))))

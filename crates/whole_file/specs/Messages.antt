@@ -7,7 +7,7 @@ use mathlib.Core.List.{List, _++_}
 use lib.Dec.{eqb, ltb}
 use lib.ListN.{length, take, drop, replicate}
 use Rattle.ground.specs.Choice.{fails, pick}
-use Rattle.ground.specs.Lists.{all, same, part}
+use Rattle.ground.specs.Lists.{all, same}
 use Rattle.text.specs.Characters.{digit, allBlank}
 use Rattle.text.specs.Numbers.{decimal}
 use Rattle.text.specs.Letters.{letters}
@@ -18,7 +18,7 @@ use Rattle.changeover.specs.Held.{heldKey}
 use Rattle.table.specs.Table.{Table, placeOf, customerIn}
 use Rattle.table.specs.declared.Found.{Found}
 use Rattle.table.specs.declared.Found.the-variants.{At, Unknown}
-use Rattle.message.specs.Layout.{layoutLength}
+use Rattle.message.specs.Layout.{field, fieldText, layoutLength}
 use Rattle.message.specs.Fields.{senderOf, transportGenerationOf, onceFieldOf}
 use Rattle.message.specs.Order.{firstFailing}
 use Rattle.message.specs.Rules.{formOf, formChecks}
@@ -42,11 +42,10 @@ headLength = 11
 
 -- field 2, which states the message's length
 abbrev pub statedLength : List ℕ → List ℕ
-statedLength chars = part 5 3 chars
+statedLength chars = fieldText (field 2) chars
 
 -- a message whose first record is under 11 characters is that record alone; otherwise a length that isn't digits or isn't the layout's
--- makes
--- a faulty message of that one record; else it is collected whole
+-- makes a faulty message of that one record; else it is collected whole
 unfoldable pub extentOf : Kind → List ℕ → Extent
 extentOf kind chars =
     pick (ltb (length chars) headLength) TooShort

@@ -36,8 +36,8 @@ pub record Opened : Type 0 where
   pub once : Key
   pub records : List (List ℕ)
 
--- where the reading stands: before the ESI; collecting a message, with its characters so far; outside a frame, with 1023 given or not; in a
--- frame; closed
+-- where the reading stands: before the ESI; collecting a message, with its characters so far;
+-- outside a frame, with 1023 given or not; in a frame; closed
 pub data Situation : Type 0 where
   beforeEsi : Situation
   collectingEsi : List ℕ → Situation
@@ -182,8 +182,8 @@ recordIn o s (inFrame f) chars = frameRecord o s f chars
 recordIn o s (collectingVar sofar f) chars = varGoesOn o s f (sofar ++ chars)
 recordIn o s closed chars = silent s
 
--- ---- a byte past the size limit gives 1034 and closes the file, and an open frame gets nothing else. Until an ESI is accepted the reply
--- is an ESI
+-- ---- a byte past the size limit gives 1034 and closes the file,
+-- and an open frame gets nothing else. Until an ESI is accepted the reply is an ESI
 
 unfoldable pub pastIn : Opening → Standing → Situation → Step
 pastIn o s beforeEsi = esiSays o s 1034 noField (moved s closed)

@@ -1,10 +1,11 @@
 -- Each answer is the one that the tests before it lead to.
-use mathlib.Core.Path.{sym, ap, _∙_}
+use mathlib.Core.Path.{refl, sym, ap, _∙_}
 use borrow.Author.Tests.{eq-eqb, ne-eqb}
+use Rattle.ground.proofs.Bools.{unsaid}
 use Rattle.customer.specs.declared.Customer.{Customer}
 use Rattle.changeover.specs.declared.Key.the-variants.{Missing}
 use Rattle.acceptance.specs.Steps.{granted, underCurrent}
-use Rattle.acceptance.proofs.Grants.{here, there, forbidden, allowed}
+use Rattle.acceptance.proofs.Grants.{here, there}
 use borrow.Author.Needs.{needs}
 use Rattle.acceptance.proofs.under_current.Statement.{statement}
 use Rattle.acceptance.proofs.under_current.Tie as tie
@@ -18,7 +19,7 @@ unfolding underCurrent
 returns-2 c =
     let i = c .before .before in
     there _ _ _ _ (ne-eqb _ _ (i .before .before .before .if1 .left))
-    (here _ _ _ _ (eq-eqb _ _ (i .if2 .taken)) (here _ _ _ _ (forbidden _ (c .before .if3 .taken)) (c .without-key2 .ensures)))
+    (here _ _ _ _ (eq-eqb _ _ (i .if2 .taken)) (here _ _ _ _ (unsaid refl (c .before .if3 .taken)) (c .without-key2 .ensures)))
 
 returns-3 : tie.Need-returns-3
 unfolding underCurrent
@@ -26,7 +27,7 @@ returns-3 c =
     let i = c .before .before .before in
     there _ _ _ _ (ne-eqb _ _ (i .before .before .before .if1 .left))
     (here _ _ _ _ (eq-eqb _ _ (i .if2 .taken))
-    (there _ _ _ _ (allowed _ (c .before .before .if3 .left))
+    (there _ _ _ _ (unsaid refl (c .before .before .if3 .left))
     (here _ _ _ _ (sym (i .before .is-changing .ensures) ∙ c .before .if4 .taken) (c .without-key3 .ensures))))
 
 returns-4 : tie.Need-returns-4
@@ -35,7 +36,7 @@ returns-4 c =
     let i = c .before .before .before in
     there _ _ _ _ (ne-eqb _ _ (i .before .before .before .if1 .left))
     (here _ _ _ _ (eq-eqb _ _ (i .if2 .taken))
-    (there _ _ _ _ (allowed _ (c .before .before .if3 .left))
+    (there _ _ _ _ (unsaid refl (c .before .before .if3 .left))
     (there _ _ _ _ (sym (i .before .is-changing .ensures) ∙ c .before .if4 .left) (c .new-key .ensures))))
 
 returns-5 : tie.Need-returns-5

@@ -1,6 +1,5 @@
 -- The checks are made in their order.
 use mathlib.Core.Path.{ap, ap₂, _∙_}
-use Rattle.calendar.specs.Dates.{dated}
 use Rattle.changeover.specs.Held.{heldKey, goodFor}
 use Rattle.changeover.specs.declared.Key.{Key}
 use Rattle.checks.specs.Checks.{checksumDiffers, esiKeyChecks}
@@ -24,7 +23,7 @@ returns c =
     let at-date = at-working-generation .before .before .before in
     let at-args = at-date .before in
     let a = at-args .args in
-    let d = ap dated (at-date .date .ensures) in
+    let d = at-date .date .ensures in
     let g = at-working-generation .working-generation .ensures in
     next _ _ _ _ (c .or-else2 .ensures) (at-fault-if .fault-if .ensures)
     (turned (at-is-good-for .is-good-for .ensures

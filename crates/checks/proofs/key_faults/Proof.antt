@@ -4,7 +4,6 @@ use Prim.Native.Nat.{ℕ}
 use mathlib.Core.List.{List}
 use Rattle.ground.specs.Choice.{either, fails}
 use Rattle.ground.proofs.Bools.{turned}
-use Rattle.calendar.specs.Dates.{dated}
 use Rattle.calendar.specs.declared.Date.{Date}
 use Rattle.keys.specs.Parity.{oddParity}
 use Rattle.changeover.specs.Held.{heldKey, goodFor}
@@ -42,7 +41,7 @@ returns c =
     let at-args = at-date .before .before .before .before .before .before in
     λ t e.
     let a = at-args .args in
-    let d = ap dated (at-date .date .ensures) in
+    let d = at-date .date .ensures in
     let g = at-working-generation .working-generation .ensures in
     let n = at-key-or-0 .key-or-0 .ensures in
     next _ _ _ _ (c .or-else5 .ensures) (at-fault-if .fault-if .ensures) (at-is-key-refused .is-key-refused .ensures

@@ -2,7 +2,7 @@
 use mathlib.Core.Path.{sym, ap, ap₂, _∙_}
 use Prim.Native.Nat.{ℕ}
 use mathlib.Core.List.{List}
-use Rattle.calendar.specs.Dates.{dated, isBefore}
+use Rattle.calendar.specs.Dates.{isBefore}
 use Rattle.calendar.specs.Banking.{tooOld}
 use Rattle.calendar.specs.declared.Date.{Date}
 use Rattle.acceptance.specs.Stamps.{holdsStamp}
@@ -24,7 +24,7 @@ returns c =
     let at-args = at-date .before .before in
     λ t e.
     let a = at-args .args in
-    let d = ap dated (at-date .date .ensures) in
+    let d = at-date .date .ensures in
     next _ _ _ _ (c .or-else2 .ensures) (at-fault-if .fault-if .ensures) (at-is-too-old .is-too-old .ensures
     ∙ ap₂ (λ (h : List ℕ) (x : Date). tooOld h x (a .today)) (sym e) d)
     (next _ _ _ _ (c .before .or-else .ensures) (at-fault-if2 .fault-if2 .ensures)

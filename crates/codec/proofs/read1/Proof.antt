@@ -1,6 +1,6 @@
 -- The byte at its place.
 use native.Mathlib.Omega.{arith}
-use Rattle.splices.proofs.Splice.{part1}
+use Rattle.ground.proofs.Parts.{part1}
 use Rattle.splices.specs.Bytes.{num}
 use borrow.Author.Needs.{needs}
 use Rattle.codec.proofs.read1.Statement.{statement}

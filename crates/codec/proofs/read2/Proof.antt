@@ -1,6 +1,6 @@
 -- The two bytes, each at its place.
 use native.Mathlib.Omega.{arith}
-use Rattle.splices.proofs.Splice.{part2}
+use Rattle.ground.proofs.Parts.{part2}
 use Rattle.splices.specs.Bytes.{num}
 use borrow.Author.Needs.{needs}
 use Rattle.codec.proofs.read2.Statement.{statement}

@@ -1,6 +1,6 @@
 -- The four bytes, each by its place.
 use native.Mathlib.Omega.{arith}
-use Rattle.splices.proofs.Splice.{part4}
+use Rattle.ground.proofs.Parts.{part4}
 use Rattle.splices.specs.Bytes.{num}
 use borrow.Author.Needs.{needs}
 use Rattle.codec.proofs.read4.Statement.{statement}

@@ -4,7 +4,8 @@ use Prim.Native.Nat.{ℕ, _+_, _≤_, _<_, _-_}
 use native.Mathlib.Omega.{arith}
 use borrow.Author.Count.{below-none}
 use lib.ListN.{length, getD, length-set}
-use Rattle.splices.proofs.Chunks.{filled-more, filled-part}
+use Rattle.ground.proofs.Lists.{filled-more}
+use Rattle.ground.proofs.Parts.{filled-part}
 use Rattle.codec.proofs.read_bytes.Statement.{statement}
 use Rattle.codec.proofs.read_bytes.Tie as tie
 

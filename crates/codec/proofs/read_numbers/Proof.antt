@@ -5,8 +5,9 @@ use native.Mathlib.Omega.{arith}
 use borrow.Author.Count.{below-none}
 use lib.ListN.{length, getD, length-set}
 use Rattle.ground.specs.Lists.{part}
+use Rattle.ground.proofs.Lists.{filled-more}
 use Rattle.splices.specs.Bytes.{num}
-use Rattle.splices.proofs.Chunks.{filled-more, filled-nums}
+use Rattle.splices.proofs.Chunks.{filled-nums}
 use Rattle.codec.proofs.read_numbers.Statement.{statement}
 use Rattle.codec.proofs.read_numbers.Tie as tie
 

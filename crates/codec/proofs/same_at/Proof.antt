@@ -7,9 +7,8 @@ use mathlib.Core.Path.{refl}
 use lib.ListN.{length, getD}
 use Rattle.ground.specs.Lists.{part}
 use Rattle.ground.proofs.Choices.{eq-same}
-use Rattle.splices.proofs.Splice.{getD-part}
-use Rattle.splices.proofs.Chunks.{filled-part}
-use Rattle.codec.proofs.Laws.{differ-at}
+use Rattle.ground.proofs.Lists.{differ-at}
+use Rattle.ground.proofs.Parts.{getD-part, filled-part}
 use Rattle.codec.proofs.same_at.Statement.{statement}
 use Rattle.codec.proofs.same_at.Tie as tie
 

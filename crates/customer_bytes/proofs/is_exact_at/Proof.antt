@@ -1,8 +1,8 @@
 -- Zero bytes are exact; where there is room the bytes there decide.
 use mathlib.Core.Path.{_∙_}
+use Rattle.ground.proofs.Numbers.{room, no-room}
 use Rattle.customer_bytes.proofs.Laws.{exact-at, exact-past}
 use borrow.Author.Needs.{needs}
-use Rattle.splices.proofs.Splice.{room, no-room}
 use Rattle.customer_bytes.proofs.is_exact_at.Statement.{statement}
 use Rattle.customer_bytes.proofs.is_exact_at.Tie as tie
 

@@ -1,9 +1,9 @@
 -- Where there is no room zero bytes are read, else those at the place.
 use mathlib.Core.Path.{sym, _∙_}
+use Rattle.ground.proofs.Numbers.{room, no-room}
 use Rattle.customer_bytes.specs.Layout.{customerOf}
 use Rattle.customer_bytes.proofs.Laws.{customer-at, customer-past}
 use borrow.Author.Needs.{needs}
-use Rattle.splices.proofs.Splice.{room, no-room}
 use Rattle.customer_bytes.proofs.load_at.Statement.{statement}
 use Rattle.customer_bytes.proofs.load_at.Tie as tie
 

@@ -2,7 +2,8 @@
 use mathlib.Core.Path.{_≡_, sym, _∙_}
 use native.Mathlib.Omega.{arith}
 use lib.ListN.{length}
-use Rattle.splices.proofs.Splice.{put-past, put-fits, room, no-room}
+use Rattle.ground.proofs.Numbers.{room, no-room}
+use Rattle.splices.proofs.Splice.{put-past, put-fits}
 use Rattle.customer_bytes.specs.Layout.{customerBytes}
 use Rattle.customer_bytes.proofs.Laws.{customer-sized, customer-width}
 use borrow.Author.Needs.{needs}

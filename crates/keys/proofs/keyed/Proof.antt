@@ -1,5 +1,5 @@
--- The maker is copied into a local, the local is lent to `next_key` for a lifetime of the call, and it comes back at the last value that
--- `next_key` ensures.
+-- The maker is copied into a local, the local is lent to `next_key` for a lifetime of the call,
+-- and it comes back at the last value that `next_key` ensures.
 -- Assumes nothing.
 use mathlib.Core.Path.{_≡_, refl, ap}
 use Prim.Native.Nat.{ℕ, _<_, _^_}
@@ -151,8 +151,8 @@ module _ {M : Type 1} (𝓤 : URA M) (H : Heap 𝓤) (A : Atoms 𝓤) (W : Given
         (some (λ (zs : KeyMaker × (Unit {0} × Unit {0})). ‵ (lasts next-key.ended (ν ∷ [], tt) (ref l₃ γ, (n, tt)) zs) ⊛ raw
         (fact 𝓤 (Said r (zs .0))))) (id⊢ 𝓤 _) $ pick ! (λ zs.
         split ! $ move ! (1 ∷ []) $ heard ! (Said r (zs .0)) (λ e. fsplit ! $ move ! (2 ∷ []) $ split ! $ move ! (1 ∷ []) $
-        -- [what r owns; the token; the last maker; true; the lender's part; _6; …; _5; …; _4; …; what frees _3; _2; …; _1; …; room for _0;
-        -- …]
+        -- [what r owns; the token; the last maker; true; the lender's part;
+        -- _6; …; _5; …; _4; …; what frees _3; _2; …; _1; …; room for _0; …]
         peeks ! u64 (Is u64) (shows 𝓤 H A u64) r (w ∷ []) (λ is.
         land ! (from ! (stop !)) (init ! 9 refl (uint-lawful 𝓤 H A W w64 .typed r _ is .0)) $ rewrite ! 9
         (λ (u : Val). ‵ (fat fullShare (tyInt w64) l₄ 0 u)) (ap only (is .0)) refl $

@@ -1,5 +1,5 @@
--- The borrow is opened, the maker is copied out for `make`, and the maker that `make` returns is stored over it whole, so all that is known
--- is `make`'s equation.
+-- The borrow is opened, the maker is copied out for `make`,
+-- and the maker that `make` returns is stored over it whole, so all that is known is `make`'s equation.
 -- Assumes nothing.
 use mathlib.Core.Path.{_≡_, refl, ap}
 use Prim.Native.Nat.{ℕ, _<_, _^_}

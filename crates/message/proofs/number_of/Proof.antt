@@ -1,7 +1,8 @@
 -- The table agrees with the layout at each place, which is computed.
 use mathlib.Core.Path.{refl}
 use Rattle.ground.specs.Choice.{both}
-use Rattle.message.proofs.Places.{ruled, numberAt, numbers}
+use Rattle.ground.proofs.Table.{ruled}
+use Rattle.message.proofs.Places.{numberAt, numbers}
 use borrow.Author.Needs.{needs}
 use Rattle.message.proofs.number_of.Statement.{statement}
 use Rattle.message.proofs.number_of.Tie as tie

@@ -1,5 +1,6 @@
 -- A later place begins no earlier, and what lies past the message's end is nothing.
-use Rattle.message.proofs.Places.{ordered, cut-ordered, cut-part}
+use Rattle.ground.proofs.Parts.{cut-ordered, cut-part}
+use Rattle.message.proofs.Places.{ordered}
 use borrow.Author.Needs.{needs}
 use Rattle.message.proofs.span.Statement.{statement}
 use Rattle.message.proofs.span.Tie as tie

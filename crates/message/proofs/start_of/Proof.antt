@@ -2,8 +2,9 @@
 use mathlib.Core.Path.{refl}
 use lib.ListN.{take}
 use Rattle.ground.specs.Choice.{both, pick}
+use Rattle.ground.proofs.Table.{ruled}
 use Rattle.message.specs.Layout.{fields, total, offsetIn}
-use Rattle.message.proofs.Places.{ruled, starts}
+use Rattle.message.proofs.Places.{starts}
 use borrow.Author.Needs.{needs}
 use Rattle.message.proofs.start_of.Statement.{statement}
 use Rattle.message.proofs.start_of.Tie as tie

@@ -6,7 +6,7 @@ use lib.ListN.{take}
 use denote.Ref.{now}
 use lib.Seq.{length-take-le}
 use Rattle.ground.specs.Lists.{same}
-use Rattle.ground.proofs.Lists.{take-least}
+use Rattle.ground.proofs.Parts.{take-least}
 use borrow.Author.Needs.{needs}
 use Rattle.read_messages.proofs.begins_with.Statement.{statement}
 use Rattle.read_messages.proofs.begins_with.Tie as tie

@@ -3,8 +3,8 @@ use mathlib.Core.Path.{_≡_, sym, _∙_}
 use native.Mathlib.Nat.{min-le-right}
 use native.Mathlib.Omega.{arith}
 use lib.ListN.{length}
-use Rattle.read_messages.proofs.Kept.{kept-length}
 use borrow.Author.Needs.{needs}
+use Rattle.ground.proofs.Parts.{kept-length}
 use Rattle.read_messages.proofs.kept_count.Statement.{statement}
 use Rattle.read_messages.proofs.kept_count.Tie as tie
 

@@ -3,8 +3,9 @@ use mathlib.Core.Path.{ap, _∙_}
 use mathlib.Core.List.{List}
 use Prim.Native.Nat.{ℕ}
 use native.Mathlib.Omega.{arith}
+use Rattle.ground.proofs.Parts.{some-over}
 use Rattle.text.specs.Characters.{allBlank}
-use Rattle.read_messages.proofs.Kept.{none-over, some-over}
+use Rattle.read_messages.proofs.Kept.{none-over}
 use borrow.Author.Needs.{needs}
 use Rattle.read_messages.proofs.rest_blank.Statement.{statement}
 use Rattle.read_messages.proofs.rest_blank.Tie as tie

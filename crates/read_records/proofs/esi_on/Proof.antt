@@ -1,5 +1,6 @@
 -- It goes on until its length is reached.
-use Rattle.read_messages.proofs.Turns.{Gives, taken, left, quietly}
+use Rattle.ground.proofs.Bools.{chosen, skipped}
+use Rattle.read_messages.proofs.Turns.{Gives, quietly}
 use Rattle.session.specs.Events.{esiOn}
 use borrow.Author.Needs.{needs}
 use Rattle.read_records.proofs.esi_on.Statement.{statement}
@@ -7,7 +8,7 @@ use Rattle.read_records.proofs.esi_on.Tie as tie
 
 returns : tie.Need-returns
 unfolding esiOn
-returns c = taken (Gives _ _) _ _ _ _ (c .before .before .before .wants-more .ensures) (c .before .before .if1 .taken)
+returns c = chosen (Gives _ _) _ _ _ _ (c .before .before .before .wants-more .ensures) (c .before .before .if1 .taken)
     (quietly _ (c .quiet .ensures) (c .before .keeps-on .ensures))
 
 returns-2 : tie.Need-returns-2
@@ -15,7 +16,7 @@ unfolding esiOn
 returns-2 c =
     let at-if1 = c .before .before .before .before in
     let at-wants-more = at-if1 .before in
-    left (Gives _ _) _ _ _ _ (at-wants-more .wants-more .ensures) (at-if1 .if1 .left) (c .before .before .esi-done .ensures)
+    skipped (Gives _ _) _ _ _ _ (at-wants-more .wants-more .ensures) (at-if1 .if1 .left) (c .before .before .esi-done .ensures)
 
 pub esi-on-spec : {M : Type 1} → statement M
 esi-on-spec =

@@ -1,5 +1,6 @@
 -- Each answer by the tests that led to it.
-use Rattle.read_messages.proofs.Turns.{Gives, taken}
+use Rattle.ground.proofs.Bools.{chosen}
+use Rattle.read_messages.proofs.Turns.{Gives}
 use Rattle.read_records.proofs.Endings.{frame-suo, frame-esi, frame-data}
 use Rattle.session.specs.Events.{frameEnds}
 use borrow.Author.Needs.{needs}
@@ -11,7 +12,7 @@ unfolding frameEnds
 returns c =
     let at-if1 = c .before .before .before .before in
     let at-begins-var = at-if1 .before in
-    taken (Gives _ _) _ _ _ _ (at-begins-var .begins-var .ensures) (at-if1 .if1 .taken) (c .before .before .var-start .ensures)
+    chosen (Gives _ _) _ _ _ _ (at-begins-var .begins-var .ensures) (at-if1 .if1 .taken) (c .before .before .var-start .ensures)
 
 returns-2 : tie.Need-returns-2
 returns-2 c =

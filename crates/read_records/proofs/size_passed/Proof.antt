@@ -2,8 +2,9 @@
 use mathlib.Core.Path.{refl, ap, _∙_}
 use mathlib.Core.Bool.{Bool}
 use denote.Ref.{now}
+use Rattle.ground.proofs.Bools.{turned-pick}
 use Rattle.session.specs.declared.Place.{Place}
-use Rattle.read_messages.proofs.Turns.{by-case, quietly, barely, turned}
+use Rattle.read_messages.proofs.Turns.{by-case, quietly, barely}
 use Rattle.session.specs.Events.{passed, passedIn, bareTurn}
 use borrow.Author.Needs.{needs}
 use Rattle.read_records.proofs.size_passed.Statement.{statement}
@@ -31,7 +32,7 @@ returns-3 c =
     (by-case (λ (x : Place). passedIn x (at-args .args .s) (now (at-args .args .t))) (at-place .place .given .1)
     (barely _ _ _ _ _ (c .bare3 .ensures
     ∙ ap (λ (b : Bool). bareTurn (at-args .args .s) (now (at-args .args .t)) b 1034 0 (c .before .closed-at3 .result) .out)
-    (turned _ _ (c .before .before .is-esi .ensures))) (c .before .closed-at3 .ensures))) .0
+    (turned-pick _ _ (c .before .before .is-esi .ensures))) (c .before .closed-at3 .ensures))) .0
 
 returns-4 : tie.Need-returns-4
 unfolding passed passedIn

@@ -4,11 +4,12 @@ use mathlib.Core.Path.{_≡_, refl, sym, _∙_}
 use mathlib.Core.Bool.{false≢true}
 use native.Mathlib.Omega.{arith}
 use lib.ListN.{length, drop}
+use Rattle.ground.proofs.Parts.{part-fits}
 use Rattle.law_protocol.specs.Ready.{Good}
 use Rattle.law_protocol.proofs.Good.{end-good}
 use Rattle.receiving.specs.Steps.{sawFrom, SoFar}
 use Rattle.receiving.proofs.Keeping.{so-far-start, so-far-as, count-fits}
-use Rattle.receiving.proofs.Calling.{part-fits, moved, at-the-end, read-closed, read-good, read-further}
+use Rattle.receiving.proofs.Calling.{moved, at-the-end, read-closed, read-good, read-further}
 use Rattle.receiving.proofs.read_all.Statement.{statement}
 use Rattle.receiving.proofs.read_all.Tie as tie
 

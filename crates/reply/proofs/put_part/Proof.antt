@@ -4,7 +4,7 @@ use Prim.Native.Nat.{ℕ, _+_, _-_}
 use native.Mathlib.Omega.{arith}
 use lib.ListN.{length, take, drop}
 use Rattle.ground.specs.Lists.{part}
-use Rattle.ground.proofs.Lists.{part-full}
+use Rattle.ground.proofs.Parts.{part-length}
 use Rattle.reply.proofs.Parts.{alike}
 use borrow.Author.Needs.{needs}
 use Rattle.reply.proofs.put_part.Statement.{statement}
@@ -20,7 +20,7 @@ returns c =
     let a = s .args in
     let e : a .from + a .n - a .from ≡ a .n = omega arith in
     let p = alike (ap (λ (k : ℕ). take k (drop (a .from) (a .t3))) e) (c .before .before .put .ensures) in
-    (p, p .place ∙ ap (λ (k : ℕ). a .at + k) (part-full (a .from) (a .n) (a .t3) (omega (arith, s .pre .1, message-length s))))
+    (p, p .place ∙ ap (λ (k : ℕ). a .at + k) (part-length (a .t3) (a .from) (a .n) (omega (arith, s .pre .1, message-length s))))
 
 pub put-part-spec : {M : Type 1} → statement M
 put-part-spec =

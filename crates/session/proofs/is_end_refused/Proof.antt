@@ -3,8 +3,7 @@ use mathlib.Core.Path.{_≡_, refl, sym, _∙_}
 use native.Mathlib.Omega.{arith}
 use borrow.Author.Tests.{eq-eqb, ne-eqb}
 use Rattle.ground.proofs.Choices.{either-left, either-right, either-decides}
-use Rattle.ground.proofs.Bools.{denied, granted, turned}
-use Rattle.acceptance.proofs.Grants.{forbidden, allowed}
+use Rattle.ground.proofs.Bools.{denied, granted, turned, unsaid}
 use Rattle.session.specs.Ranges.{endRefused}
 use borrow.Author.Needs.{needs}
 use Rattle.session.proofs.is_end_refused.Statement.{statement}
@@ -12,7 +11,7 @@ use Rattle.session.proofs.is_end_refused.Tie as tie
 
 returns : tie.Need-returns
 unfolding endRefused
-returns c = sym (either-left _ _ (forbidden _ (c .if1 .taken)))
+returns c = sym (either-left _ _ (unsaid refl (c .if1 .taken)))
 
 returns-2 : tie.Need-returns-2
 unfolding endRefused
@@ -33,7 +32,7 @@ returns-4 c =
     let same : a .s .opening .today .yymmdd ≡ a .day = omega arith in
     turned (c .is-in-range .ensures)
     ∙ sym
-    (either-decides _ _ (allowed _ (t .before .before .if1 .left))
+    (either-decides _ _ (unsaid refl (t .before .before .if1 .left))
     ∙ either-decides _ _ (sym (t .before .is-closed .ensures) ∙ t .if2 .left)
     ∙ either-decides _ _ (denied refl (eq-eqb _ _ same)))
 

@@ -5,8 +5,8 @@ use native.Mathlib.Omega.{arith}
 use borrow.Author.Tests.{eq-eqb, ne-eqb}
 use lib.Dec.{eqb}
 use lib.ListN.{length, drop}
+use Rattle.ground.proofs.Lists.{all-more, all-stop, all-end}
 use Rattle.text.specs.Characters.{blank, allBlank}
-use Rattle.text.proofs.Lists.{all-more, all-stop, all-end}
 use Rattle.text.proofs.all_blank.Statement.{statement}
 use Rattle.text.proofs.all_blank.Tie as tie
 

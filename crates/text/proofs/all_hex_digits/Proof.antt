@@ -5,8 +5,8 @@ use native.Mathlib.Omega.{arith}
 use borrow.Author.Tests.{not-true, not-false}
 use lib.ListN.{length, drop}
 use Rattle.ground.specs.Lists.{all}
+use Rattle.ground.proofs.Lists.{all-more, all-stop, all-end}
 use Rattle.text.specs.Characters.{hexDigit}
-use Rattle.text.proofs.Lists.{all-more, all-stop, all-end}
 use Rattle.text.proofs.all_hex_digits.Statement.{statement}
 use Rattle.text.proofs.all_hex_digits.Tie as tie
 

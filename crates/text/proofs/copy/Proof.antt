@@ -4,7 +4,7 @@ use mathlib.Core.List.{List, _++_}
 use Prim.Native.Nat.{_≤_, _-_}
 use native.Mathlib.Omega.{arith}
 use lib.ListN.{length, take, drop, set, getD, length-set}
-use Rattle.text.proofs.Lists.{copy-more, copy-all, copy-full}
+use Rattle.ground.proofs.Lists.{copy-more, copy-all, copy-full}
 use Rattle.text.proofs.copy.Statement.{statement}
 use Rattle.text.proofs.copy.Tie as tie
 

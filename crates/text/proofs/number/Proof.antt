@@ -3,7 +3,7 @@ use mathlib.Core.Path.{_≡_, sym, ap, _∙_}
 use Prim.Native.Nat.{ℕ, _≤_, _-_}
 use native.Mathlib.Omega.{arith}
 use lib.ListN.{length, take}
-use Rattle.ground.proofs.Lists.{take-both}
+use Rattle.ground.proofs.Parts.{take-both}
 use Rattle.text.specs.Numbers.{decimal}
 use Rattle.text.proofs.Base.{read-more, read-fits}
 use Rattle.text.proofs.Laws.{decimal-nil, decimals}

@@ -8,8 +8,7 @@ use lib.ListN.{getD}
 use Rattle.ground.specs.Lists.{part}
 use Rattle.ground.proofs.Choices.{eq-same}
 use Rattle.ground.proofs.Lists.{differ-at}
-use Rattle.splices.proofs.Splice
-use Rattle.splices.proofs.Chunks
+use Rattle.ground.proofs.Parts.{getD-part, filled-part}
 use Rattle.table.proofs.parts.same_at.Statement.{statement}
 use Rattle.table.proofs.parts.same_at.Tie as tie
 
@@ -27,7 +26,7 @@ returns c =
     let l = c .before .before .before .loop in
     let a = c .before .before .before .before .args in
     differ-at (a .t3) (part (a .at) 25 (a .t .now)) (l .i)
-    (λ q. c .if1 .taken (sym (Splice.getD-part _ _ _ _ (omega arith)) ∙ sym q))
+    (λ q. c .if1 .taken (sym (getD-part _ _ _ _ (omega arith)) ∙ sym q))
 
 loop-again : tie.Need-loop-again Inv-loop μ-loop
 loop-again c = (omega arith, below-more _ _ (c .before .before .before .loop .inv .1) (c .if1 .left))
@@ -37,7 +36,7 @@ returns-2 c =
     let l = c .before .loop in
     let a = c .before .before in
     sym (eq-same (a .args .t3) (part (a .args .at) 25 (a .args .t .now))
-    (Chunks.filled-part (a .args .t .now) (a .args .t3) (a .args .at) 25 (a .pre) (search needs)
+    (filled-part (a .args .t .now) (a .args .t3) (a .args .at) 25 (a .pre) (search needs)
     (λ k h. sym (l .inv .1 k (omega arith)))))
 
 pub same-at-spec : {M : Type 1} → statement M
