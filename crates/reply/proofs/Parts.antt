@@ -67,12 +67,13 @@ then {at} {n} {r} {v} {w} {a} {b} {c} p q =
           ∙ splice-splice at v w a n (p .place) (omega (arith, e, p .place));
     }
 
-pub end : {at r : ℕ} {v a b : List ℕ} → Run at v a b r → at + length v ≤ length a → Put at v a b r
-end p h = record { place = p .place; written = p .written h }
-
 pub alike : {at r : ℕ} {v w a b : List ℕ} → v ≡ w → Put at v a b r → Put at w a b r
 alike {at} {r} {v} {w} {a} {b} e p =
     record { place = p .place ∙ ap (λ (x : List ℕ). at + length x) e; written = p .written ∙ ap (λ (x : List ℕ). splice at x a) e }
+
+-- the parts joined are w
+pub end : {at r : ℕ} {v w a b : List ℕ} → v ≡ w → Run at v a b r → at + length w ≤ length a → Put at w a b r
+end e p h = alike e record { place = p .place; written = p .written (omega (arith, ap length e)) }
 
 pub put-length : {at r : ℕ} {v a b : List ℕ} → at + length v ≤ length a → Put at v a b r → length b ≡ length a
 put-length {at} {r} {v} {a} h p = ap length (p .written) ∙ splice-length at v a h

@@ -7,34 +7,27 @@ use borrow.Author.Needs.{needs}
 use Rattle.checks.proofs.check_frame.Statement.{statement}
 use Rattle.checks.proofs.check_frame.Tie as tie
 
+-- the customer's holidays, whose dates the last three tests are lent
+abbrev at-holidays-in : tie.After-pair-faults → tie.After-holidays-in
+at-holidays-in c = c .before .before .before .before .before .before .before .before
+
 array-share-prefix-dates : tie.Need-array-share-prefix-dates
-array-share-prefix-dates c = lent-room _ _ (c .before .before .before .before .before .before .before .before .holidays-in .ensures)
+array-share-prefix-dates c = lent-room _ _ (at-holidays-in c .holidays-in .ensures)
 
 slice-aggregate-stamp-faults : tie.Need-slice-aggregate-stamp-faults
-slice-aggregate-stamp-faults c =
-    let at-holidays-in = c .before .before .before .before .before .before .before .before .before in
-    lent-count _ _ (at-holidays-in .holidays-in .ensures)
+slice-aggregate-stamp-faults c = lent-count _ _ (at-holidays-in (c .before) .holidays-in .ensures)
 
 array-share-prefix-dates-2 : tie.Need-array-share-prefix-dates-2
-array-share-prefix-dates-2 c =
-    let at-holidays-in = c .before .before .before .before .before .before .before .before .before .before in
-    lent-room _ _ (at-holidays-in .holidays-in .ensures)
+array-share-prefix-dates-2 c = lent-room _ _ (at-holidays-in (c .before .before) .holidays-in .ensures)
 
 slice-aggregate-key-faults : tie.Need-slice-aggregate-key-faults
-slice-aggregate-key-faults c =
-    let at-holidays-in = c .before .before .before .before .before .before .before .before .before .before .before in
-    lent-count _ _ (at-holidays-in .holidays-in .ensures)
+slice-aggregate-key-faults c = lent-count _ _ (at-holidays-in (c .before .before .before) .holidays-in .ensures)
 
 array-share-prefix-dates-3 : tie.Need-array-share-prefix-dates-3
-array-share-prefix-dates-3 c =
-    let at-holidays-in = c .before .before .before .before .before .before .before .before .before .before .before .before in
-    lent-room _ _ (at-holidays-in .holidays-in .ensures)
+array-share-prefix-dates-3 c = lent-room _ _ (at-holidays-in (c .before .before .before .before) .holidays-in .ensures)
 
 slice-aggregate-room-faults : tie.Need-slice-aggregate-room-faults
-slice-aggregate-room-faults c =
-    let past-here = c .before .before .before .before .before .before .before .before .before .before .before .before in
-    let at-holidays-in = past-here .before in
-    lent-count _ _ (at-holidays-in .holidays-in .ensures)
+slice-aggregate-room-faults c = lent-count _ _ (at-holidays-in (c .before .before .before .before .before) .holidays-in .ensures)
 
 returns : tie.Need-returns
 unfolding typeChecks
@@ -52,9 +45,8 @@ returns c =
     let at-party-faults = at-is-type-refused .before in
     let at-form-faults2 = at-party-faults .before in
     let at-form-faults = at-form-faults2 .before in
-    let at-holidays-in = at-form-faults .before .before .before in
-    let at-customer-of = at-holidays-in .before in
-    let h = lent-dates _ _ (at-holidays-in .holidays-in .ensures) in
+    let at-customer-of = at-holidays-in at-pair-faults .before in
+    let h = lent-dates _ _ (at-holidays-in at-pair-faults .holidays-in .ensures) in
     frame-first _ _ _ _ _ (at-customer-of .customer-of .ensures) (c .or-else7 .ensures) (c .before .or-else6 .ensures)
     (c .before .before .or-else5 .ensures) (at-or-else4 .or-else4 .ensures) (at-or-else3 .or-else3 .ensures)
     (at-or-else2 .or-else2 .ensures) (at-or-else .or-else .ensures)

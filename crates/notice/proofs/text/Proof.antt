@@ -1,7 +1,8 @@
 -- The text before the name, the name where the code has one, and what stands after it in 1026, each filled with blanks.
-use mathlib.Core.Path.{refl, sym, ap, _∙_}
+use mathlib.Core.Path.{_≡_, refl, sym, ap, _∙_}
 use Prim.Native.Nat.{_+_}
 use native.Mathlib.Omega.{arith}
+use mathlib.Core.Bool.{true}
 use borrow.Author.Tests.{not-true, not-false}
 use mathlib.Core.List.{_++_}
 use lib.ListN.{length-append}
@@ -23,52 +24,56 @@ returns c =
 joined-requires : tie.Need-joined-requires
 joined-requires c κs = omega (arith, code-room (c .before .before .before .before .before .args .code))
 
+abbrev at-start : tie.Else1 → tie.Start
+at-start c = c .before .before .before
+
+names : (c : tie.Else1) → codeIn (at-start c .args .code) codes .names ≡ true
+names c = sym (c .before .names-field .ensures) ∙ not-false _ (c .if1 .left)
+
+abbrev at-if1 : tie.After-joined → tie.Else1
+at-if1 c = c .before .before .before
+
+-- up to the name
+named-so-far : (c : tie.After-joined) → let a = at-start (at-if1 c) .args in
+    c .joined .result ≡ padded 51 (codeIn (a .code) codes .before ++ fieldName (a .field))
+named-so-far c =
+    let a = at-start (at-if1 c) .args in
+    join-filled 51 _ _ (fieldName (a .field)) _ _ _ (omega (arith, code-room (a .code))) (c .before .before .before-length .ensures)
+    (at-if1 c .before .before .before2 .ensures) (c .before .field-name .ensures) (c .joined .ensures)
+
 returns-2 : tie.Need-returns-2
 returns-2 c =
-    let s = c .before .before .before .before .before .before .before in
-    let e = sym (c .before .before .before .before .before .names-field .ensures)
-    ∙ not-false _ (c .before .before .before .before .if1 .left) in
-    join-filled 51 _ _ (fieldName (s .args .field)) _ _ _ (omega (arith, code-room (s .args .code)))
-    (c .before .before .before .before-length .ensures)
-    (c .before .before .before .before .before .before .before2 .ensures) (c .before .before .field-name .ensures)
-    (c .before .joined .ensures)
-    ∙ ap (padded 51) (named (s .args .code) (s .args .field) e (c .if2 .taken))
+    let if1 = at-if1 (c .before) in
+    let a = at-start if1 .args in
+    named-so-far (c .before) ∙ ap (padded 51) (named (a .code) (a .field) (names if1) (c .if2 .taken))
 
 add-end : tie.Need-add-end
 add-end c =
-    let s = c .before .before .before .before .before .before .before .before in
-    omega (arith, code-room (s .args .code), name-length (s .args .field))
+    let a = at-start (at-if1 (c .before .before)) .args in
+    omega (arith, code-room (a .code), name-length (a .field))
 
 joined-requires-2 : tie.Need-joined-requires-2
 joined-requires-2 c κs =
-    let s = c .before .before .before .before .before .before .before .before .before .before in
-    omega (
-      arith,
-      name-room (s .args .code) (s .args .field)
-          (sym (c .before .before .before .before .before .before .before .before .names-field .ensures)
-          ∙ not-false _ (c .before .before .before .before .before .before .before .if1 .left)),
-    )
+    let if1 = at-if1 (c .before .before .before .before) in
+    omega (arith, name-room (at-start if1 .args .code) (at-start if1 .args .field) (names if1))
 
 returns-3 : tie.Need-returns-3
 unfolding padded letters
 returns-3 c =
-    let s = c .before .before .before .before .before .before .before .before .before .before .before in
-    let l = c .before .before .before .before .before .before .before .before-length in
+    let at-joined = c .before .before .before .before .before in
+    let if1 = at-if1 at-joined in
+    let a = at-start if1 .args in
+    let l = at-joined .before .before .before-length in
     let m = c .before .before .before .name-length in
-    let e = sym (c .before .before .before .before .before .before .before .before .before .names-field .ensures)
-    ∙ not-false _ (c .before .before .before .before .before .before .before .before .if1 .left) in
-    let b = codeIn (s .args .code) codes .before in
-    let n = fieldName (s .args .field) in
-    let j = join-filled 51 _ b n _ _ _ (omega (arith, code-room (s .args .code))) (l .ensures)
-    (c .before .before .before .before .before .before .before .before .before .before .before2 .ensures)
-    (c .before .before .before .before .before .before .field-name .ensures) (c .before .before .before .before .before .joined .ensures) in
+    let b = codeIn (a .code) codes .before in
+    let n = fieldName (a .field) in
     join-filled 51 (l .result + m .result) (b ++ n) (letters ": SUO-SANOMA <> VAR-SANOMA") _ _ _
-    (omega (arith, length-append b n, name-room (s .args .code) (s .args .field) e))
+    (omega (arith, length-append b n, name-room (a .code) (a .field) (names if1)))
     (omega (arith, length-append b n, l .ensures, m .ensures))
-    j
+    (named-so-far at-joined)
     refl
     (c .joined2 .ensures)
-    ∙ ap (padded 51) (named-after (s .args .code) (s .args .field) (c .before .before .before .before .if2 .left))
+    ∙ ap (padded 51) (named-after (a .code) (a .field) (c .before .before .before .before .if2 .left))
 
 pub text-spec : {M : Type 1} → statement M
 text-spec =

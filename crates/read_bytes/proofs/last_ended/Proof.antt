@@ -26,15 +26,15 @@ waiting-heard-requires c κs = (
 returns-2 : tie.Need-returns-2
 unfolding lineEnded
 returns-2 c =
-    let s = c .before .before .before .before .before .before .before .before .before .before .before .before .before .before
-    .before .args .s in
+    let at-record-ended = c .before .before in
+    let at-with-line = at-record-ended .before .before in
+    let at-if1 = at-with-line .before .before .before .before .before .before in
+    let s = at-if1 .before .before .before .before .before .args .s in
     let e =
-    c .before .before .before .before .with-line .ensures
-    ∙ ap (λ (u : Session). withLine u (record { size = s .line .size; cr = false }))
-    (c .before .before .before .before .before .waiting-heard .ensures) in
-    ⊎-elim (λ w. characters-begun _ _ e (c .before .before .record-ended .ensures) (omega (arith, w .2 .left)))
-    (λ w. cr-begun _ _ e (c .before .before .record-ended .ensures) (passed refl (w .left)))
-    (c .before .before .before .before .before .before .before .before .before .before .if1 .came)
+    at-with-line .with-line .ensures
+    ∙ ap (λ (u : Session). withLine u (record { size = s .line .size; cr = false })) (at-with-line .before .waiting-heard .ensures) in
+    ⊎-elim (λ w. characters-begun _ _ e (at-record-ended .record-ended .ensures) (omega (arith, w .2 .left)))
+    (λ w. cr-begun _ _ e (at-record-ended .record-ended .ensures) (passed refl (w .left))) (at-if1 .if1 .came)
 
 pub last-ended-spec : {M : Type 1} → statement M
 last-ended-spec =

@@ -1,6 +1,6 @@
 -- What is left, from where the scan stands, gives the whole, and the round keys are those of the one-time key there.
-use Prim.Native.Nat.{_≤_, _-_}
-use mathlib.Core.Path.{_≡_, sym, ap, _∙_}
+use Prim.Native.Nat.{_+_, _≤_, _-_}
+use mathlib.Core.Path.{_≡_, refl, sym, ap, _∙_}
 use native.Mathlib.Omega.{arith}
 use lib.ListN.{length}
 use Rattle.des.specs.Des.{scheduleOf}
@@ -23,6 +23,25 @@ Inv-loop t₀ input sbox at₀ key₀ keys₀ i₀ t at key keys i =
 abbrev μ-loop : tie.MeasureT-loop
 μ-loop t₀ input sbox at₀ key₀ keys₀ i₀ t at key keys i = length input - i
 
+-- ---- the places that are named, each from the next
+
+abbrev at-start : tie.At-loop Inv-loop μ-loop → tie.Start Inv-loop μ-loop
+at-start c = c .before .before .before .before .before .before
+
+abbrev at-run-end : tie.After-run-on-arg Inv-loop μ-loop → tie.After-run-end Inv-loop μ-loop
+at-run-end c = c .before .before .before
+
+abbrev at-run : tie.After-run-end Inv-loop μ-loop → tie.At-loop Inv-loop μ-loop
+at-run c = c .before .before .before
+
+abbrev at-step-test : tie.After-step Inv-loop μ-loop → tie.In-loop Inv-loop μ-loop
+at-step-test c = c .before .before .before .before .before .before .before
+
+abbrev at-step : tie.After-at Inv-loop μ-loop → tie.After-step Inv-loop μ-loop
+at-step c = c .before .before .before .before
+
+-- ---- the loop
+
 loop-holds : tie.Need-loop-holds Inv-loop μ-loop
 loop-holds c =
     let a = c .before .before .before .before .before .args in
@@ -39,22 +58,24 @@ part-run-on-end c = omega (arith, c .before .before .run-end .ensures .starts, c
 
 run-on-requires : tie.Need-run-on-requires Inv-loop μ-loop
 run-on-requires c κs =
-    let a = c .before .before .before .before .before .before .before .before .before .before .before .before .args in
-    let l = c .before .before .before .before .before .before .loop in
-    let r = c .before .before .before .run-end .ensures in (
-      c .before .before .before .before .before .before .before .before .before .box-table .ensures,
+    let at-loop = at-run (at-run-end c) in
+    let a = at-start at-loop .args in
+    let l = at-loop .loop in
+    let r = at-run-end c .run-end .ensures in (
+      at-loop .before .before .before .box-table .ensures,
       l .inv .3 ∙ ap scheduleOf (l .inv .2),
       rw (run-length (a .input .now) (l .i) (l .at) (l .t) _ r (c .before .before .if1 .taken)) (r .fits),
     )
 
 loop-less : tie.Need-loop-less Inv-loop μ-loop
-loop-less c = omega (arith, c .before .before .before .before .run-end .ensures .within)
+loop-less c = omega (arith, at-run-end (c .before) .run-end .ensures .within)
 
 loop-again : tie.Need-loop-again Inv-loop μ-loop
 loop-again c =
-    let a = c .before .before .before .before .before .before .before .before .before .before .before .before .before .args in
-    let l = c .before .before .before .before .before .before .before .loop in
-    let r = c .before .before .before .before .run-end .ensures in (
+    let at-loop = at-run (at-run-end (c .before)) in
+    let a = at-start at-loop .args in
+    let l = at-loop .loop in
+    let r = at-run-end (c .before) .run-end .ensures in (
       r .within,
       l .inv .1,
       l .inv .2 ∙ run-key _ _ _ (c .run-on .ensures),
@@ -71,29 +92,33 @@ step-requires c κs =
 add-i : tie.Need-add-i Inv-loop μ-loop
 add-i c = omega (
   arith,
-  c .before .before .before .before .before .before .before .before .before .before .before .loop-test .taken,
-  c .before .before .before .before .before .before .before .before .before .before .before .before .before .before .before .before
-      .before .before .good .1 .1 .0 .1,
+  at-step-test (at-step c) .loop-test .taken,
+  at-start (at-step-test (at-step c) .before) .good .1 .1 .0 .1,
 )
+
+parts : {x y : Scan} → x ≡ y → ((x .turn .out .session ≡ y .turn .out .session) × (x .turn .out .reply ≡ y .turn .out .reply)
+    × (x .taken ≡ y .taken)) × (x .turn .table ≡ y .turn .table)
+parts e = rw e ((refl, refl, refl), refl)
 
 returns : tie.Need-returns Inv-loop μ-loop
 unfolding silent
 returns c =
-    let at-step = c .before .before .before .before .before in
-    let at-loop-test = at-step .before .before .before .before .before .before .before in
-    let at-loop = at-loop-test .before in
-    let at-args = at-loop .before .before .before .before .before .before in
-    let a = at-args .args in
-    let l = at-loop .loop in
-    let e = replied (a .input .now) (l .i) (l .at) (l .t) (at-loop-test .loop-test .taken) (at-step .step .ensures) (c .if2 .taken)
-    ∙ l .inv .4 in (
-      (
-        ap (λ (x : Scan). x .turn .out .session) e,
-        ap (λ (x : Scan). x .turn .out .reply) e,
-        ap (λ (x : Scan). x .taken) e,
-      ),
-      ap (λ (x : Scan). x .turn .table) e,
-    )
+    let step = at-step (c .before) in
+    let test = at-step-test step in
+    let l = test .before .loop in
+    parts (replied (at-start (test .before) .args .input .now) (l .i) (l .at) (l .t) (test .loop-test .taken) (step .step .ensures)
+    (c .if2 .taken) ∙ l .inv .4)
+
+-- past a byte without a reply what is left gives the whole
+went-on : (c : tie.Else2 Inv-loop μ-loop) → let step = at-step (c .before) in let l = at-step-test step .before in
+    left-at (at-start l .args .input .now) (l .loop .i + 1) (step .step .result .session) (step .step .last .1 .1 .1 .0)
+    ≡ scanned (at-start l .args .s) (at-start l .args .t .now) (at-start l .args .input .now)
+went-on c =
+    let step = at-step (c .before) in
+    let test = at-step-test step in
+    let l = test .before .loop in
+    goes-on (at-start (test .before) .args .input .now) (l .i) (l .at) (l .t) (test .loop-test .taken) (step .step .ensures) (c .if2 .left)
+    ∙ l .inv .4
 
 loop-again-2 : tie.Need-loop-again-2 Inv-loop μ-loop
 loop-again-2 c = (
@@ -101,14 +126,7 @@ loop-again-2 c = (
   search needs,
   c .before .before .batch-key2 .ensures,
   c .schedule2 .ensures,
-  let a = c .before .before .before .before .before .before .before .before .before .before .before .before .before .before .before
-      .before .before .before .before .before .before .before .args in
-      let l = c .before .before .before .before .before .before .before .before .before .before .before .before .before .before
-      .before .before .loop in
-      goes-on (a .input .now) (l .i) (l .at) (l .t)
-      (c .before .before .before .before .before .before .before .before .before .before .before .before .before .before
-      .before .loop-test .taken) (c .before .before .before .before .before .before .before .before .step .ensures) (c .before
-      .before .before .if2 .left) ∙ l .inv .4,
+  went-on (c .before .before .before),
 )
 
 loop-again-3 : tie.Need-loop-again-3 Inv-loop μ-loop
@@ -116,30 +134,17 @@ loop-again-3 c = (
   omega arith,
   search needs,
   sym (c .if3 .left) ∙ c .before .batch-key2 .ensures,
-  c .before .before .before .before .before .before .before .before .before .before .before .before .before .before .before .loop .inv .3,
-  let a = c .before .before .before .before .before .before .before .before .before .before .before .before .before .before .before
-      .before .before .before .before .before .before .args in
-      let l = c .before .before .before .before .before .before .before .before .before .before .before .before .before .before
-      .before .loop in
-      goes-on (a .input .now) (l .i) (l .at) (l .t)
-      (c .before .before .before .before .before .before .before .before .before .before .before .before .before
-      .before .loop-test .taken) (c .before .before .before .before .before .before .before .step .ensures) (c .before
-      .before .if2 .left) ∙ l .inv .4,
+  at-step-test (at-step (c .before .before .before)) .before .loop .inv .3,
+  went-on (c .before .before),
 )
 
 returns-2 : tie.Need-returns-2 Inv-loop μ-loop
 unfolding silent
 returns-2 c =
-    let a = c .before .before .before .before .before .before .before .before .args in
-    let l = c .before .before .loop in
-    let e = all-taken (a .input .now) (l .i) (l .at) (l .t) (c .before .loop-test .left) ∙ l .inv .4 in (
-      (
-        ap (λ (x : Scan). x .turn .out .session) e,
-        c .no-reply .ensures ∙ ap (λ (x : Scan). x .turn .out .reply) e,
-        ap (λ (x : Scan). x .taken) e,
-      ),
-      ap (λ (x : Scan). x .turn .table) e,
-    )
+    let at-loop = c .before .before in
+    let l = at-loop .loop in
+    let e = parts (all-taken (at-start at-loop .args .input .now) (l .i) (l .at) (l .t) (c .before .loop-test .left) ∙ l .inv .4) in
+    ((e .0 .0, c .no-reply .ensures ∙ e .0 .1, e .0 .2), e .1)
 
 pub scan-spec : {M : Type 1} → statement M
 scan-spec =

@@ -10,30 +10,36 @@ use Rattle.read_messages.proofs.extent_in.Tie as tie
 returns : tie.Need-returns
 returns c = under-eleven _ (c .before .before .args .count) (c .before .before .args .t2) (omega (arith, c .before .kept-count .ensures .0))
 
+abbrev at-kept-count : tie.After-all-digits → tie.After-kept-count
+at-kept-count c = c .before .before .before .before
+
 returns-2 : tie.Need-returns-2
 unfolding part
-returns-2 c = letters-in-it _ (c .before .before .before .before .before .before .args .count)
-    (c .before .before .before .before .before .before .args .t2)
-    (omega (arith, c .before .before .before .before .before .kept-count .ensures .0)) _ (c .before .all-digits .ensures)
-    (not-true _ (c .if2 .taken))
+returns-2 c =
+    let kept = at-kept-count (c .before) in
+    letters-in-it _ (kept .before .args .count) (kept .before .args .t2) (omega (arith, kept .kept-count .ensures .0)) _
+    (c .before .all-digits .ensures) (not-true _ (c .if2 .taken))
+
+abbrev at-all-digits : tie.After-length-of → tie.After-all-digits
+at-all-digits c = c .before .before .before .before .before
 
 returns-3 : tie.Need-returns-3
 unfolding part
-returns-3 c = other-length _ (c .before .before .before .before .before .before .before .before .before .before .before .args .count)
-    (c .before .before .before .before .before .before .before .before .before .before .before .args .t2)
-    (omega (arith, c .before .before .before .before .before .before .before .before .before .before .kept-count .ensures .0)) _
-    (c .before .before .before .before .before .before .all-digits .ensures)
-    (not-false _ (c .before .before .before .before .before .if2 .left)) _ (c .before .before .number .ensures) _
-    (c .before .length-of .ensures) (c .if3 .taken)
+returns-3 c =
+    let digits = at-all-digits (c .before) in
+    let kept = at-kept-count digits in
+    other-length _ (kept .before .args .count) (kept .before .args .t2) (omega (arith, kept .kept-count .ensures .0)) _
+    (digits .all-digits .ensures) (not-false _ (c .before .before .before .before .before .if2 .left)) _
+    (c .before .before .number .ensures) _ (c .before .length-of .ensures) (c .if3 .taken)
 
 returns-4 : tie.Need-returns-4
 unfolding part
-returns-4 c = its-length _ (c .before .before .before .before .before .before .before .before .before .before .before .args .count)
-    (c .before .before .before .before .before .before .before .before .before .before .before .args .t2)
-    (omega (arith, c .before .before .before .before .before .before .before .before .before .before .kept-count .ensures .0)) _
-    (c .before .before .before .before .before .before .all-digits .ensures)
-    (not-false _ (c .before .before .before .before .before .if2 .left)) _ (c .before .before .number .ensures) _
-    (c .before .length-of .ensures) (c .if3 .left)
+returns-4 c =
+    let digits = at-all-digits (c .before) in
+    let kept = at-kept-count digits in
+    its-length _ (kept .before .args .count) (kept .before .args .t2) (omega (arith, kept .kept-count .ensures .0)) _
+    (digits .all-digits .ensures) (not-false _ (c .before .before .before .before .before .if2 .left)) _
+    (c .before .before .number .ensures) _ (c .before .length-of .ensures) (c .if3 .left)
 
 pub extent-in-spec : {M : Type 1} → statement M
 extent-in-spec =

@@ -1,9 +1,9 @@
 -- The parts are written one after the other; the checksum is that of the first 144 characters, which stand there then.
 use mathlib.Core.Path.{_≡_, sym, ap, _∙_}
-use Prim.Native.Nat.{ℕ}
+use Prim.Native.Nat.{ℕ, _+_, _≤_}
 use native.Mathlib.Omega.{arith}
 use lib.ListN.{length, take}
-use Rattle.reply.specs.Reply.{head, hexOr, sealedFlag, checksumKey, replyLength}
+use Rattle.reply.specs.Reply.{head, hexOr, sealedFlag, checksumKey, replyOf, replyLength}
 use Rattle.reply.proofs.Parts.{begin, then, end, alike, first}
 use Rattle.reply.proofs.Keys.{hex-or-length, flag-length}
 use Rattle.reply.proofs.Widths.{notice-length}
@@ -19,123 +19,96 @@ sized c = search needs
 head-is : (c : tie.Start) → length (head (c .args .a)) ≡ 144
 head-is c = head-length (c .args .a) (sized c .0) (sized c .1) (sized c .2) (sized c .3)
 
-put-head-requires : tie.Need-put-head-requires
-put-head-requires c κs =
-    let s = c .before .before in
-    omega (arith, s .pre, least-length (s .args .a))
+-- ---- the places where a part has been written, each from the next
 
-put-hex-requires : tie.Need-put-hex-requires
-put-hex-requires c κs =
-    let s = c .before .before .before .before .before .before .before .before in
-    omega (arith, s .pre, head-is s, least-length (s .args .a))
+abbrev at-start : tie.After-put-head → tie.Start
+at-start c = c .before .before .before
 
-put-flag-requires : tie.Need-put-flag-requires
-put-flag-requires c κs =
-    let s = c .before .before .before .before .before .before .before .before .before .before .before .before .before in
-    omega (
-      arith,
-      s .pre,
-      head-is s,
-      least-length (s .args .a),
-      hex-or-length
-          (c .before .before .before .before .before .before .checksum-key .result),
-    )
+abbrev at-head : tie.After-put-hex → tie.After-put-head
+at-head c = c .before .before .before .before .before .before
 
-put-hex-requires-2 : tie.Need-put-hex-requires-2
-put-hex-requires-2 c κs =
-    let s = c .before .before .before .before .before .before .before .before .before .before .before .before .before .before
-    .before .before .before in
-    omega (
-      arith,
-      s .pre,
-      head-is s,
-      least-length (s .args .a),
-      hex-or-length
-          (c .before .before .before .before .before .before .before .before .before .before .checksum-key .result),
-      flag-length
-          (c .before .before .before .before .before .enclosed-key .result),
-    )
+abbrev at-sum : tie.After-put-flag → tie.After-put-hex
+at-sum c = c .before .before .before .before .before
 
-put-notice-requires : tie.Need-put-notice-requires
-put-notice-requires c κs =
-    let s = c .before .before .before .before .before .before .before .before .before .before .before .before .before .before
-    .before .before .before .before .before .before .before in
-    omega (
-      arith,
-      s .pre,
-      head-is s,
-      least-length (s .args .a),
-      c .before .before .before .before .before .before .before .before .before,
-      c .before .before .before .before .before .before .before .before .before .before .before .before .before .before .before,
-      hex-or-length (c .before .before .before .before .before .before .before .before .before .before .before .before .before
-          .before .checksum-key .result),
-      flag-length (c .before .before .before .before .before .before .before .before .before .enclosed-key .result),
-      hex-or-length (c .before .before .before .before .before .before .before .before .before .enclosed-key .result),
-    )
+abbrev at-flag : tie.After-put-hex2 → tie.After-put-flag
+at-flag c = c .before .before .before .before
+
+abbrev at-key : tie.After-put-notice → tie.After-put-hex2
+at-key c = c .before .before .before .before
+
+abbrev at-notice : tie.After-put-receipt → tie.After-put-notice
+at-notice c = c .before .before .before .before
+
+abbrev start-of : tie.After-put-notice → tie.Start
+start-of c = at-start (at-head (at-sum (at-flag (at-key c))))
+
+-- ---- there: where the next part starts, and that the room holds an ESI still
+
+past-head : (c : tie.After-put-head) → (c .put-head .result ≡ 144) × (237 ≤ length (c .put-head .last .0))
+past-head c = (omega (arith, head-is (at-start c)), omega (arith, least-length (at-start c .args .a)))
+
+past-sum : (c : tie.After-put-hex) → (c .put-hex .result ≡ 160) × (237 ≤ length (c .put-hex .last .0))
+past-sum c =
+    let h = past-head (at-head c) in
+    (omega (arith, h, hex-or-length (c .before .before .checksum-key .result)), omega (arith, h))
+
+past-flag : (c : tie.After-put-flag) → (c .put-flag .result ≡ 161) × (237 ≤ length (c .put-flag .last .0))
+past-flag c =
+    let h = past-sum (at-sum c) in
+    (omega (arith, h, flag-length (c .before .before .enclosed-key .result)), omega (arith, h))
+
+past-key : (c : tie.After-put-hex2) → (c .put-hex2 .result ≡ 177) × (237 ≤ length (c .put-hex2 .last .0))
+past-key c =
+    let h = past-flag (at-flag c) in
+    (omega (arith, h, hex-or-length (at-flag c .before .before .enclosed-key .result)), omega (arith, h))
+
+past-notice : (c : tie.After-put-notice) → (c .put-notice .result ≡ 237)
+    × (length (c .put-notice .last .0) ≡ length (start-of c .args .out .now))
+past-notice c = (omega (arith, past-key (at-key c), notice-length (start-of c .args .a)), search needs)
 
 put-receipt-requires : tie.Need-put-receipt-requires
 unfolding replyLength
 put-receipt-requires c κs =
-    let s = c .before .before .before .before .before .before .before .before .before .before .before .before .before .before
-    .before .before .before .before .before .before .before .before .before .before .before in
-    omega (
-      arith,
-      s .pre,
-      head-is s,
-      least-length (s .args .a),
-      c .before .before .before .before .before .before .before .before .before .before .before,
-      c .before .before .before .before .before .before .before .before .before .before .before .before .before .before .before
-          .before .before .before .before,
-      hex-or-length (c .before .before .before .before .before .before .before .before .before .before .before .before .before
-          .before .before .before .before .before .checksum-key .result),
-      flag-length (c .before .before .before .before .before .before .before .before .before .before .before .before
-          .before .enclosed-key .result),
-      hex-or-length (c .before .before .before .before .before .before .before .before .before .before .before .before
-          .before .enclosed-key .result),
-      notice-length (s .args .a),
-      receipt-length (s .args .a .pte),
-    )
+    let notice = c .before .before .before in
+    let start = start-of notice in
+    omega (arith, start .pre, past-notice notice, receipt-length (start .args .a .pte))
+
+reply-fits : (c : tie.Start) → 0 + length (replyOf (c .args .a)) ≤ length (c .args .out .now)
+reply-fits c = omega (arith, c .pre, reply-length (c .args .a) (sized c .0) (sized c .1) (sized c .2) (sized c .3))
+
+head-fits : (c : tie.Start) → length (head (c .args .a)) ≤ length (c .args .out .now)
+head-fits c = omega (arith, c .pre, head-is c, least-length (c .args .a))
 
 returns : tie.Need-returns
 returns c =
-    let s = c .before .before .before .before .before .before .before .before .before .before .before .before .before .before
-    .before .before .before .before .before .before .before .before .before .before .before .before .before .before in
-    let a = s .args .a in
-    let l = sized s in
-    let p = c .before .before .before .before .before .before .before .before .before .before .before .before .before .before
-    .before .before .before .before .before .before .before .before .before .before .before .put-head .ensures in
-    let h = ap (λ (n : ℕ). take n (c .before .before .before .before .before .before .before .before .before .before .before
-    .before .before .before .before .before .before .before .before .before .before .before .before .before
-    .before .put-head .last .0)) (sym (head-is s)) ∙ first (omega (arith, s .pre, head-is s, least-length a)) p in
-    let e = c .before .before .before .before .before .before .before .before .before .before .before .before .before .before
-    .before .before .before .before .before .before .before .checksum-key .ensures ∙ ap (checksumKey a) h in
-    let k = c .before .before .before .before .before .before .before .before .before .before .before .before .before .before
-    .before .before .enclosed-key .ensures in
-    alike (reply-joined a)
-    (end
-    (then
-    (then
-    (then
-    (then (then (begin p) (alike (ap hexOr e)
-    (c .before .before .before .before .before .before .before .before .before .before .before .before .before .before .before
-    .before .before .before .before .put-hex .ensures))) (alike (ap sealedFlag k) (c .before .before .before .before .before
-    .before .before .before .before .before .before .before .before .before .put-flag .ensures)))
-    (alike (ap hexOr k) (c .before .before .before .before .before .before .before .before .before .before .put-hex2 .ensures)))
-    (c .before .before .before .before .before .before .put-notice .ensures))
-    (c .before .before .put-receipt .ensures))
-    (omega (arith, s .pre, ap length (reply-joined a), reply-length a (l .0) (l .1) (l .2) (l .3))))
+    let receipt = c .before .before in
+    let notice = at-notice receipt in
+    let key = at-key notice in
+    let flag = at-flag key in
+    let sum = at-sum flag in
+    let head = at-head sum in
+    let start = at-start head in
+    let a = start .args .a in
+    let p = head .put-head .ensures in
+    let h = ap (λ (n : ℕ). take n (head .put-head .last .0)) (sym (head-is start)) ∙ first (head-fits start) p in
+    let e = sum .before .before .checksum-key .ensures ∙ ap (checksumKey a) h in
+    let k = flag .before .before .enclosed-key .ensures in
+    let run = then (then (begin p) (alike (ap hexOr e) (sum .put-hex .ensures))) (alike (ap sealedFlag k) (flag .put-flag .ensures)) in
+    end (reply-joined a)
+    (then (then (then run (alike (ap hexOr k) (key .put-hex2 .ensures))) (notice .put-notice .ensures)) (receipt .put-receipt .ensures))
+    (reply-fits start)
 
 pub put-reply-spec : {M : Type 1} → statement M
 put-reply-spec =
     tie.close
     (tie.spec
-    put-head-requires
+    (λ c κs. omega (arith, least-length (c .before .before .args .a)))
     (λ c κs. search needs)
-    put-hex-requires
+    (λ c κs. omega (arith, past-head (c .before .before .before .before .before)))
     (λ c κs. search needs)
-    put-flag-requires
-    put-hex-requires-2
-    put-notice-requires
+    (λ c κs. omega (arith, past-sum (c .before .before .before .before)))
+    (λ c κs. omega (arith, past-flag (c .before .before .before)))
+    (λ c κs. omega (arith, past-key (c .before .before .before)))
     put-receipt-requires
     (λ c. search needs)
     returns)

@@ -26,7 +26,8 @@ returns-2 c =
 returns-3 : tie.Need-returns-3
 unfolding customerAdded
 returns-3 c =
-    let last = c .before .before .before .before .before .before .before .before .before .before in
+    let at-write4 = c .before .before .before .before .before .before in
+    let last = at-write4 .before .before .before .before in
     let start = last .before .before in
     let checked = start .before .before in
     let counted = checked .before in
@@ -35,7 +36,7 @@ returns-3 c =
     let s = start .customers-start in
     let n = counted .count-customers in
     add-writes (a .t .now) _ _ _ (customerBytes (a .c)) (s .result + 1109 * n .result) (n .result + 1) (s .result + 1109 * (n .result + 1))
-    (sized .if1 .left) (last .store-at .ensures) (c .before .before .before .before .before .before .write4 .ensures)
+    (sized .if1 .left) (last .store-at .ensures) (at-write4 .write4 .ensures)
     (c .before .before .write42 .ensures)
     ∙ ap₂ (λ (p m : ℕ). put 0 (bytesOf 4 (p + 1109 * (m + 1)))
     (put 16 (bytesOf 4 (m + 1)) (put (p + 1109 * m) (customerBytes (a .c)) (a .t .now)))) (s .ensures .0) (n .ensures .0)

@@ -28,21 +28,22 @@ returns-3 c =
     (ap realDate (sym (c .before .before .read4 .ensures)) ∙ sym (c .before .is-real .ensures)
     ∙ not-true _ (c .if3 .taken))
 
+abbrev at-if1 : tie.After-settings-at → tie.Else1
+at-if1 c = c .before .before .before .before .before .before
+
 returns-4 : tie.Need-returns-4
 returns-4 c =
-    no-table _ _ (λ k. c .before .before .before .before .before .before .before .before .before .shared-slice-known .given k .fits)
-    (λ f. f .settings) (ap soundSettings
-    (sym (c .before .before .settings-at .ensures
-    ∙ settings-at 24 _ (omega (arith, c .before .before .before .before .before .before .before .before .if1 .left))))
+    let at-settings-at = c .before .before in
+    let sized = at-if1 at-settings-at in
+    no-table _ _ (λ k. sized .before .shared-slice-known .given k .fits) (λ f. f .settings)
+    (ap soundSettings (sym (at-settings-at .settings-at .ensures ∙ settings-at 24 _ (omega (arith, sized .if1 .left))))
     ∙ sym (c .before .is-sound-settings .ensures) ∙ not-true _ (c .if4 .taken))
 
 returns-5 : tie.Need-returns-5
 returns-5 c =
-    let at-whole = c .before .before .before .before .before .before .before .before .before .before .before .before in
-    let past-here = at-whole in
-    let at-args = past-here .before in
-    let b = at-args .args .t .now in
-    no-table b _ (λ k. at-whole .shared-slice-known .given k .fits) (λ f. f .dates)
+    let at-shared-slice-known = at-if1 (c .before .before .before .before .before) .before in
+    let b = at-shared-slice-known .before .args .t .now in
+    no-table b _ (λ k. at-shared-slice-known .shared-slice-known .given k .fits) (λ f. f .dates)
     (ap (λ (n : ℕ). okDates (datesAt holidaysStart n b)) (sym (c .before .before .count-holidays .ensures .0))
     ∙ sym (c .before .are-dates .ensures) ∙ not-true _ (c .if5 .taken))
 

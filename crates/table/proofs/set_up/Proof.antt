@@ -18,16 +18,19 @@ returns-2 : tie.Need-returns-2
 unfolding tableSetUp
 returns-2 c = sym (skips _ _ _ (fails-right _ _ (lt-leb _ _ (c .if2 .taken))))
 
+lengths : (c : tie.Start) → (length (c .args .s .bank) ≡ 25) × (length (c .args .s .software) ≡ 16)
+lengths c = search needs
+
 returns-3 : tie.Need-returns-3
 returns-3 c =
-    let sized = c .before .before .before .before .before .before .before .before .before .before .before .before .before in
-    let a = sized .before .before .before .args in
-    let n : length (a .s .bank) ≡ 25 = search needs in
-    let m : length (a .s .software) ≡ 16 = search needs in
-    let few = c .before .before .before .before .before .before .before .before .before .before .before .before in
-    set-up-writes (a .t .now) (a .day .yymmdd) (a .s) (a .holidays .now) _ _ _ (sized .if1 .left) (omega (arith, few .if2 .left))
-    (n, (m, (tt, (tt, tt)))) (c .before .before .before .before .before .before .before .before .before .before .store-header .ensures)
-    (c .before .before .before .before .before .before .store-settings .ensures) (c .before .before .store-dates .ensures)
+    let at-store-settings = c .before .before .before .before .before .before in
+    let at-store-header = at-store-settings .before .before .before .before in
+    let few = at-store-header .before .before in
+    let start = few .before .before .before .before in
+    let a = start .args in
+    set-up-writes (a .t .now) (a .day .yymmdd) (a .s) (a .holidays .now) _ _ _ (few .before .if1 .left) (omega (arith, few .if2 .left))
+    (lengths start .0, (lengths start .1, (tt, (tt, tt)))) (at-store-header .store-header .ensures)
+    (at-store-settings .store-settings .ensures) (c .before .before .store-dates .ensures)
 
 pub set-up-spec : {M : Type 1} → statement M
 set-up-spec =

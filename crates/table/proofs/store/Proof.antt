@@ -26,17 +26,14 @@ returns-2 c =
 returns-3 : tie.Need-returns-3
 unfolding customerStored
 returns-3 c =
-    let a = c .before .before .before .before .before .before .before .before .before .before .before .args in
+    let at-customers-start = c .before .before .before .before in
+    let at-if2 = at-customers-start .before .before in
+    let at-if1 = at-if2 .before .before .before in
+    let a = at-if1 .before .before .args in
     c .before .before .store-at .ensures
-    ∙ ap (λ (p : ℕ). put (p + 1109 * a .i) (customerBytes (a .c)) (a .t .now))
-    (c .before .before .before .before .customers-start .ensures .0)
-    ∙ sym (picks _ _ _ (join _ _ (eq-eqb _ _ (c .before .before .before .before .before .before .before .before .before .if1 .left))
-    (lt-ltb (a .i) (customerCount (a .t .now))
-    (omega (
-      arith,
-      c .before .before .before .before .before .before .before .count-customers .ensures .0,
-      c .before .before .before .before .before .before .if2 .left,
-    )))))
+    ∙ ap (λ (p : ℕ). put (p + 1109 * a .i) (customerBytes (a .c)) (a .t .now)) (at-customers-start .customers-start .ensures .0)
+    ∙ sym (picks _ _ _ (join _ _ (eq-eqb _ _ (at-if1 .if1 .left))
+    (lt-ltb (a .i) (customerCount (a .t .now)) (omega (arith, at-if2 .before .count-customers .ensures .0, at-if2 .if2 .left)))))
 
 pub store-spec : {M : Type 1} → statement M
 store-spec =

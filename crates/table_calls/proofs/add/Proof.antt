@@ -1,5 +1,6 @@
 -- A refused call returns before it writes, and the parts that a served one writes make up the table.
-use mathlib.Core.Path.{sym, _∙_}
+use mathlib.Core.Path.{_≡_, sym, _∙_}
+use lib.ListN.{length}
 use Rattle.table_calls.specs.Calls.{addingLeaves}
 use Rattle.table_calls.proofs.Rewritten.{refused-as}
 use Rattle.table_calls.proofs.Served.{added-is}
@@ -9,25 +10,24 @@ use Rattle.table_calls.proofs.add.Tie as tie
 
 returns : tie.Need-returns
 unfolding addingLeaves
-returns c = record {
-  answers = c .before .adding-refusal .ensures;
-  leaves = refused-as _ _ _ _ (c .before .adding-refusal .ensures)
-      (c .if1 .taken);
-}
+returns c = let e = c .before .adding-refusal .ensures in record { answers = e; leaves = refused-as _ _ _ _ e (c .if1 .taken) }
+
+who-length : (c : tie.Start) → length (c .args .a .who) ≡ 25
+who-length c = search needs
 
 returns-2 : tie.Need-returns-2
-returns-2 c = record {
-  answers =
-      sym (sym (c .before .before .before .before .before .before .before .before .before .before .before .adding-refusal .ensures)
-      ∙ c .before .before .before .before .before .before .before .before .before .before .if1 .left);
-  leaves =
-      added-is _ (c .before .before .before .before .before .before .before .before .before .before .before .before .before
-      .before .args .a) (sym (c .before .before .before .before .before .before .before .before .before .before
-      .before .adding-refusal .ensures) ∙ c .before .before .before .before .before .before .before .before .before
-      .before .if1 .left) (search needs) _ _ _ (c .before .before .before .before .before .before .before .before
-      .before .new-customer .ensures) (c .before .before .before .before .before .before .add .ensures) (c .before
-      .before .store-day .ensures);
-}
+returns-2 c =
+    let at-store-day = c .before .before in
+    let at-add = at-store-day .before .before .before .before in
+    let at-new-customer = at-add .before .before .before in
+    let at-if1 = at-new-customer .before in
+    let e = sym (at-if1 .before .adding-refusal .ensures) ∙ at-if1 .if1 .left in
+    let start = at-if1 .before .before .before .before in
+    let is = added-is _ (start .args .a) e (who-length start) in
+    record {
+      answers = sym e;
+      leaves = is _ _ _ (at-new-customer .new-customer .ensures) (at-add .add .ensures) (at-store-day .store-day .ensures);
+    }
 
 pub add-spec : {M : Type 1} → statement M
 add-spec =

@@ -58,8 +58,12 @@ past6 : (c : tie.Else6) → rest 0 (at6 c) ≡ rest 6 (at6 c)
 unfolding addingRefusals noTable
 past6 c = past5 (c .before .before) ∙ lowest-next _ _ (said (c .before .is-other-check .ensures) (c .if6 .left))
 
+-- past the sixth condition, from the seventh's second test
+abbrev past-six : tie.Else8 → tie.Else6
+past-six c = c .before .before .before .before .before
+
 abbrev at7 : tie.Else10 → tie.Start
-at7 c = at6 (c .before .before .before .before .before .before .before .before .before)
+at7 c = at6 (past-six (c .before .before .before .before))
 
 past7 : (c : tie.Else10) → rest 0 (at7 c) ≡ rest 7 (at7 c)
 unfolding addingRefusals noTable
@@ -67,8 +71,8 @@ past7 c =
     let at-if8 = c .before .before .before .before in
     let at-if7 = at-if8 .before .before in
     let at-is-sound-who = at-if7 .before in
-    let at-whole = at-is-sound-who .before .before in
-    past6 (at-whole) ∙ lowest-next _ _ (either-none _ _ (unsaid (at-is-sound-who .is-sound-who .ensures) (at-if7 .if7 .left))
+    past6 (at-is-sound-who .before .before) ∙ lowest-next _ _
+    (either-none _ _ (unsaid (at-is-sound-who .is-sound-who .ensures) (at-if7 .if7 .left))
     (either-none _ _ (le-ltb 9 _ (at-if8 .if8 .left))
     (either-none _ _ (lt-leb 65536 _ (c .before .before .if9 .left)) (said (c .before .is-bad-length .ensures) (c .if10 .left)))))
 
@@ -103,21 +107,19 @@ returns-7 c = sym (past6 (c .before .before .before)
 
 returns-8 : tie.Need-returns-8
 unfolding addingAnswer addingRefusals noTable
-returns-8 c =
-    let at-whole = c .before .before .before .before .before in
-    sym (past6 (at-whole) ∙ lowest-first _ _ (either-right _ _ (either-left _ _ (lt-ltb 9 _ (c .if8 .taken)))))
+returns-8 c = sym (past6 (c .before .before .before .before .before)
+    ∙ lowest-first _ _ (either-right _ _ (either-left _ _ (lt-ltb 9 _ (c .if8 .taken)))))
 
 returns-9 : tie.Need-returns-9
 unfolding addingAnswer addingRefusals noTable
 returns-9 c =
-    let at-whole = c .before .before .before .before .before .before .before in
-    sym (past6 (at-whole) ∙ lowest-first _ _ (either-right _ _ (either-right _ _ (either-left _ _ (le-leb 65536 _ (c .if9 .taken))))))
+    sym (past6 (past-six (c .before .before)) ∙ lowest-first _ _
+    (either-right _ _ (either-right _ _ (either-left _ _ (le-leb 65536 _ (c .if9 .taken))))))
 
 returns-10 : tie.Need-returns-10
 unfolding addingAnswer addingRefusals noTable
 returns-10 c =
-    let at-whole = c .before .before .before .before .before .before .before .before .before in
-    sym (past6 (at-whole) ∙ lowest-first _ _
+    sym (past6 (past-six (c .before .before .before .before)) ∙ lowest-first _ _
     (either-right _ _ (either-right _ _ (either-right _ _ (said (c .before .is-bad-length .ensures) (c .if10 .taken))))))
 
 returns-11 : tie.Need-returns-11

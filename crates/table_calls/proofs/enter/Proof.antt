@@ -9,11 +9,7 @@ use Rattle.table_calls.proofs.enter.Tie as tie
 
 returns : tie.Need-returns
 unfolding enteringLeaves
-returns c = record {
-  answers = c .before .entering-refusal .ensures;
-  leaves = refused-as _ _ _ _ (c .before .entering-refusal .ensures)
-      (c .if1 .taken);
-}
+returns c = let e = c .before .entering-refusal .ensures in record { answers = e; leaves = refused-as _ _ _ _ e (c .if1 .taken) }
 
 returns-2 : tie.Need-returns-2
 returns-2 c =

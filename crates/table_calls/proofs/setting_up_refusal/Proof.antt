@@ -23,8 +23,15 @@ past1 : (c : tie.Else1) → rest 0 (at1 c) ≡ rest 1 (at1 c)
 unfolding settingUpRefusals
 past1 c = lowest-next _ _ (unsaid (c .before .are-real .ensures) (c .if1 .left))
 
+-- the first condition, from the tests of the second
+abbrev first3 : tie.Else3 → tie.Else1
+first3 c = c .before .before .before .before .before
+
+abbrev first5 : tie.Else5 → tie.Else1
+first5 c = first3 (c .before .before .before .before .before .before)
+
 abbrev at2 : tie.Else7 → tie.Start
-at2 c = at1 (c .before .before .before .before .before .before .before .before .before .before .before .before .before .before)
+at2 c = at1 (first5 (c .before .before .before))
 
 past2 : (c : tie.Else7) → rest 0 (at2 c) ≡ rest 2 (at2 c)
 unfolding settingUpRefusals
@@ -55,37 +62,31 @@ returns-2 c = sym (past1 (c .before) ∙ lowest-first _ _ (either-left _ _ (diff
 returns-3 : tie.Need-returns-3
 unfolding settingUpAnswer settingUpRefusals
 returns-3 c =
-    let at-whole = c .before .before .before .before .before in
-    sym (past1 (at-whole) ∙ lowest-first _ _
+    sym (past1 (c .before .before .before .before .before) ∙ lowest-first _ _
     (either-right _ _ (either-left _ _ (unsaid (c .before .is-sound-who .ensures) (c .if3 .taken)))))
 
 returns-4 : tie.Need-returns-4
 unfolding settingUpAnswer settingUpRefusals
 returns-4 c =
-    let at-whole = c .before .before .before .before .before .before .before .before .before in
-    sym (past1 (at-whole) ∙ lowest-first _ _
+    sym (past1 (first3 (c .before .before .before .before)) ∙ lowest-first _ _
     (either-right _ _ (either-right _ _ (either-left _ _ (unsaid (c .before .is-sound-name .ensures) (c .if4 .taken))))))
 
 returns-5 : tie.Need-returns-5
 unfolding settingUpAnswer settingUpRefusals
 returns-5 c =
-    let at-whole = c .before .before .before .before .before .before .before .before .before .before .before in
-    sym (past1 (at-whole) ∙ lowest-first _ _
+    sym (past1 (first3 (c .before .before .before .before .before .before)) ∙ lowest-first _ _
     (either-right _ _ (either-right _ _ (either-right _ _ (either-left _ _ (unsaid (c .before .is-floor .ensures) (c .if5 .taken)))))))
 
 returns-6 : tie.Need-returns-6
 unfolding settingUpAnswer settingUpRefusals
 returns-6 c =
-    let at-whole = c .before .before .before .before .before .before .before .before .before .before .before .before in
-    sym (past1 (at-whole) ∙ lowest-first _ _
+    sym (past1 (first5 (c .before)) ∙ lowest-first _ _
     (either-right _ _ (either-right _ _ (either-right _ _ (either-right _ _ (either-left _ _ (lt-ltb 200 _ (c .if6 .taken))))))))
 
 returns-7 : tie.Need-returns-7
 unfolding settingUpAnswer settingUpRefusals
 returns-7 c =
-    let past-here = c .before .before .before .before .before .before .before .before .before .before .before .before in
-    let at-whole = past-here .before .before in
-    sym (past1 (at-whole) ∙ lowest-first _ _
+    sym (past1 (first5 (c .before .before .before)) ∙ lowest-first _ _
     (either-right _ _ (either-right _ _
     (either-right _ _ (either-right _ _ (either-right _ _ (unsaid (c .before .are-rising .ensures) (c .if7 .taken))))))))
 

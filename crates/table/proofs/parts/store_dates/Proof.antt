@@ -25,8 +25,9 @@ loop-holds c = (omega arith, refl, splice-none _ _)
 loop-again : tie.Need-loop-again Inv-loop μ-loop
 loop-again c =
     let w = c .before .before .write4 in
-    let l = c .before .before .before .before .before .before .loop in
-    let a = c .before .before .before .before .before .before .before .before .before in (
+    let at-loop = c .before .before .before .before .before .before in
+    let l = at-loop .loop in
+    let a = at-loop .before .before .before in (
       omega arith,
       omega (arith, w .kept),
       put-nums-more 4 (a .args .at) (l .i) (a .args .dates .now) (l .t) (w .last .0) (a .args .t .now) (omega arith) (omega (arith, a .pre))

@@ -5,6 +5,8 @@ use Prim.Native.Nat.{ℕ, suc, _+_, _*_, _-_}
 use borrow.Author.Needs.{needs}
 use borrow.Author.Tests.{not-true, not-false}
 use native.Mathlib.Omega.{arith}
+use Rattle.ground.specs.Choice.{both}
+use Rattle.calendar.specs.Dates.{earlier}
 use Rattle.ground.proofs.Choices.{fails-left, decides}
 use Rattle.table.specs.Tests.{datesAt, okDates}
 use Rattle.table.proofs.Turns
@@ -31,30 +33,32 @@ loop-holds c =
           (sym (c .read4 .ensures))),
     )
 
+abbrev at-start : tie.At-loop Inv-loop μ-loop → tie.Start Inv-loop μ-loop
+at-start c = c .before .before .before .before
+
 returns-2 : tie.Need-returns-2 Inv-loop μ-loop
 returns-2 c =
     let l = c .before .before .before .loop in
-    let a = c .before .before .before .before .before .before .before in
-    sym (l .inv .1 ∙ Turns.dates-step (l .low .yymmdd) (l .p + 4) (l .left) (l .left - 1) (a .args .t .now) (omega arith)
+    let b = at-start (c .before .before .before) .args .t .now in
+    sym (l .inv .1 ∙ Turns.dates-step (l .low .yymmdd) (l .p + 4) (l .left) (l .left - 1) b (omega arith)
     ∙ fails-left _ _ (sym (c .before .is-real .ensures) ∙ not-true _ (c .if2 .taken)))
 
+-- where the date is real, the one after it decides next
+turn : (c : tie.After-read42 Inv-loop μ-loop) → let l = c .before .before .before .before in let a = at-start l .args in
+    okDates (datesAt (a .at) (a .n) (a .t .now)) ≡ both (earlier (l .loop .low .yymmdd) (c .read42 .result))
+    (okDates (c .read42 .result ∷ datesAt (l .loop .p + 4 + 4) (l .loop .left - 1) (a .t .now)))
+turn c =
+    let l = c .before .before .before .before .loop in
+    let b = at-start (c .before .before .before .before) .args .t .now in
+    let r = sym (c .before .before .is-real .ensures) ∙ not-false _ (c .before .if2 .left) in
+    let y = c .read42 in
+    l .inv .1 ∙ Turns.dates-turn (l .low .yymmdd) (y .result) (l .p + 4) (l .left) (l .left - 1) b (omega arith) r (y .ensures)
+
 returns-3 : tie.Need-returns-3 Inv-loop μ-loop
-returns-3 c =
-    let l = c .before .before .before .before .before .before .loop in
-    let a = c .before .before .before .before .before .before .before .before .before .before in
-    let r = sym (c .before .before .before .before .is-real .ensures) ∙ not-false _ (c .before .before .before .if2 .left) in
-    let s = Turns.dates-turn (l .low .yymmdd) (c .before .before .read42 .result) (l .p + 4) (l .left) (l .left - 1) (a .args .t .now)
-    (omega arith) r (c .before .before .read42 .ensures) in
-    sym (l .inv .1 ∙ s ∙ fails-left _ _ (sym (c .before .before2 .ensures) ∙ not-true _ (c .if3 .taken)))
+returns-3 c = sym (turn (c .before .before) ∙ fails-left _ _ (sym (c .before .before2 .ensures) ∙ not-true _ (c .if3 .taken)))
 
 loop-again : tie.Need-loop-again Inv-loop μ-loop
-loop-again c =
-    let l = c .before .before .before .before .before .before .loop in
-    let a = c .before .before .before .before .before .before .before .before .before .before in
-    let r = sym (c .before .before .before .before .is-real .ensures) ∙ not-false _ (c .before .before .before .if2 .left) in
-    let s = Turns.dates-turn (l .low .yymmdd) (c .before .before .read42 .result) (l .p + 4) (l .left) (l .left - 1) (a .args .t .now)
-    (omega arith) r (c .before .before .read42 .ensures) in
-    (omega arith, l .inv .1 ∙ s ∙ decides _ _ (sym (c .before .before2 .ensures) ∙ not-false _ (c .if3 .left)))
+loop-again c = (omega arith, turn (c .before .before) ∙ decides _ _ (sym (c .before .before2 .ensures) ∙ not-false _ (c .if3 .left)))
 
 returns-4 : tie.Need-returns-4 Inv-loop μ-loop
 returns-4 c =
