@@ -12,18 +12,20 @@ returns c =
 
 one-end-requires-2 : tie.Need-one-end-requires-2
 one-end-requires-2 c κs =
-    let d = c .before .before .before .before .before .before .before .before .before .before .before in
+    let i = c .before .before .before .before in
+    let d = i .before .before .before .before .before .before .before in
     let p = d .before .before .before .before .before .before .before .pre in (
-      ended-good _ _ (p .0) _ _ _ _ (d .one-end .ensures) (c .before .before .before .before .if1 .left),
+      ended-good _ _ (p .0) _ _ _ _ (d .one-end .ensures) (i .if1 .left),
       omega (arith, counts-one (d .one-end .ensures), p .1),
     )
 
 returns-2 : tie.Need-returns-2
 returns-2 c =
-    let i = c .before .before .before .before .before .before .before .before .before .before .before in
+    let at-one-end2 = c .before .before .before .before .before .before in
+    let i = at-one-end2 .before .before .before .before .before in
     let d = i .before .before .before .before .before .before .before in
     ended-twice _ _ (d .before .before .before .before .before .before .before .pre .0) _ _ _ _
-    (d .one-end .ensures) (c .before .before .before .before .before .before .one-end2 .ensures) (i .if1 .left)
+    (d .one-end .ensures) (at-one-end2 .one-end2 .ensures) (i .if1 .left)
 
 pub end-all-spec : {M : Type 1} → statement M
 end-all-spec =

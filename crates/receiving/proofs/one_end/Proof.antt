@@ -12,9 +12,9 @@ note-requires c κs =
 
 returns : tie.Need-returns
 returns c =
-    let d = c .before .before .before .before .before .before .before .before .before .before .before in
-    called-so _ _ _ _ _ (d .end .ensures) (end-at (d .before .before .before .before .before .before .pre .0) _)
-    (c .before .before .before .before .note .ensures)
+    let at-note = c .before .before .before .before in
+    let d = at-note .before .before .before .before .before .before .before in
+    called-so _ _ _ _ _ (d .end .ensures) (end-at (d .before .before .before .before .before .before .pre .0) _) (at-note .note .ensures)
 
 pub one-end-spec : {M : Type 1} → statement M
 one-end-spec =

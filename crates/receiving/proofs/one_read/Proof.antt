@@ -19,8 +19,8 @@ note-requires c κs =
 
 returns : tie.Need-returns
 returns c =
-    called-read _ _ _ _ _ (c .before .before .before .before .before .before .before .before .before .before .before .before .read .ensures)
-    (c .before .before .before .before .note .ensures)
+    let at-note = c .before .before .before .before in
+    called-read _ _ _ _ _ (at-note .before .before .before .before .before .before .before .before .read .ensures) (at-note .note .ensures)
 
 pub one-read-spec : {M : Type 1} → statement M
 one-read-spec =

@@ -21,18 +21,19 @@ returns-2 c =
 
 end-all-requires : tie.Need-end-all-requires
 end-all-requires c κs =
-    let d = c .before .before .before .before .before .before .before .before .before .before .before in
+    let f = c .before .before .before .before in
+    let d = f .before .before .before .before .before .before .before in
     let i = d .before .before .before .before .before in
-    end-ready _ _ _ _ _ (i .before .before .before .before .«open» .ensures) (i .if1 .left) (d .read-all .ensures)
-    (c .before .before .before .before .if2 .left)
+    end-ready _ _ _ _ _ (i .before .before .before .before .«open» .ensures) (i .if1 .left) (d .read-all .ensures) (f .if2 .left)
 
 returns-3 : tie.Need-returns-3
 returns-3 c =
-    let f = c .before .before .before .before .before .before .before .before .before .before .before in
+    let at-end-all = c .before .before .before .before .before .before in
+    let f = at-end-all .before .before .before .before .before in
     let d = f .before .before .before .before .before .before .before in
     let i = d .before .before .before .before .before in
     ended-promise _ _ _ _ _ (i .before .before .before .before .«open» .ensures) (i .if1 .left) (d .read-all .ensures) (f .if2 .left)
-    (c .before .before .before .before .before .before .end-all .ensures)
+    (at-end-all .end-all .ensures)
 
 pub receive-spec : {M : Type 1} → statement M
 receive-spec =
