@@ -135,9 +135,9 @@ served() {
         run 2 t ../empty 941117 091500 3 0000000000000007 far
         { grep -qF "more than 31 days after the table's day" err && [ ! -e far ] && cmp -s t ../held; } || fail "$side: a far day was taken"
         run 0 t ../empty 941116 091500 3 0000000000000007 near
-        run 0 t ../empty 960301 091500 3 0000000000000007 far later
-        run 2 t ../empty 960402 091500 3 0000000000000007 leap
-        run 0 t ../empty 960401 091500 3 0000000000000007 leap
+        run 0 t ../empty 960201 091500 3 0000000000000007 far later
+        run 2 t ../empty 960304 091500 3 0000000000000007 leap
+        run 0 t ../empty 960303 091500 3 0000000000000007 leap
     }
 }
 
@@ -329,7 +329,8 @@ refused_by_program() {
 }
 # What the next run tells to type, in another folder; then the file once more. Its stamps are accepted exactly if they weren't before.
 mend() {
-    [ ! -e t.lock ] || refused_by_program "$1"
+    lines=0
+    [ ! -e t.lock ] || { lines=$(wc -l <t.lock) && refused_by_program "$1"; }
     while [ -e t.lock ] || [ -e t.new ]; do
         rm -f out err
         # shellcheck disable=SC2086 # $at is four words
@@ -338,7 +339,7 @@ mend() {
         typed
     done
     # replies that were begun, and not named in the lock yet, are nobody's
-    [ $is = new ] || [ ! -e r.new ] || { nobodys=$((nobodys + 1)); rm r.new; }
+    [ $is = new ] || [ ! -e r.new ] || [ "$lines" -ge 2 ] || { nobodys=$((nobodys + 1)); rm r.new; }
     { [ ! -e r.new ] && [ ! -e mended ]; } || fail "$1: the mend left something: $(ls -A)"
     [ $is = old ] || cmp -s r "../$side.replies" || fail "$1: the mend lost the replies"
     # shellcheck disable=SC2086 # $at is four words
