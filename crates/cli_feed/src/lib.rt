@@ -1,6 +1,5 @@
 // The file, part by part: each part is taken reply by reply, and each reply is written as it comes.
 ghost use Prim.Native.Nat.{_≤_};
-use cli_explain::Settled;
 use cli_passed::Passed;
 use cli_terminal::say;
 use libc::STDERR_FILENO;
@@ -60,17 +59,7 @@ fn is_concluded(explanations: i32, replies: &[u8], fed: Fed) -> bool {
     }
     let passed = fed.passed;
     let count = passed.count;
-    is_told(cli_explain::tell_count(explanations, count), replies)
-}
-
-fn is_told(is_written: bool, replies: &[u8]) -> bool {
-    if !is_written {
-        say::trouble(
-            b"nothing was changed: can't write the explanations beside the replies",
-            replies,
-        );
-    }
-    is_written
+    cli_settled::is_told(cli_explain::tell_count(explanations, count), replies)
 }
 
 fn fed_to(state: State, taken: usize, s: session::Session, passed: Passed) -> Fed {
@@ -278,13 +267,6 @@ fn is_answered(out: i32, replies: &[u8], a: calls::Answer, room: &[u8]) -> bool 
 
 // ---- explanations
 
-// The table as it is before a call.
-fn table_before(t: &[u8]) -> [u8; 49152] {
-    let mut before = [0u8; 49152];
-    text::copy(&mut before, t);
-    before
-}
-
 // One read call, and its reply explained.
 fn explained_step(
     out: i32,
@@ -295,7 +277,7 @@ fn explained_step(
     passed: Passed,
     input: &[u8],
 ) -> Fed {
-    let mut before = table_before(t);
+    let mut before = cli_settled::table_before(t);
     let mut room = [0u8; 317];
     let a = calls::read(t, s, input, &mut room);
     explained(
@@ -331,7 +313,7 @@ fn explained(
     }
     let marked = cli_passed::marked_by(passed, s, input);
     let at = cli_passed::at_step(passed, marked, s, input, a.taken);
-    if !is_step_explained(
+    if !cli_settled::is_step_explained(
         explanations,
         replies,
         before,
@@ -348,82 +330,6 @@ fn explained(
     }
     let after = cli_passed::passed_by(marked, input, a.taken, room, a.length);
     fed_to(state_after(a.finished), a.taken, session, after)
-}
-
-// Explains a reply, if there is one, by the session just before the byte that settled it: the same read without that byte, on the
-// table as it was.
-fn is_step_explained(
-    explanations: i32,
-    replies: &[u8],
-    before: &mut [u8],
-    t: &[u8],
-    s: session::Session,
-    marked: Passed,
-    at: Settled,
-    input: &[u8],
-    taken: usize,
-    room: &[u8],
-    length: usize,
-) -> bool {
-    if length == 0 {
-        return true;
-    }
-    if taken == 0 {
-        return false;
-    }
-    let held = session_before(before, s, input, taken - 1);
-    is_told(
-        is_reply_told(explanations, before, t, held, marked, room, length, at),
-        replies,
-    )
-}
-
-// The session after the first n bytes of the input, which settle nothing.
-fn session_before(t: &mut [u8], s: session::Session, input: &[u8], n: usize) -> session::Session {
-    if input.len() < n {
-        return s;
-    }
-    let mut unused = [0u8; 317];
-    let a = calls::read(t, s, &input[..n], &mut unused);
-    a.session
-}
-
-// A reply of that length, told.
-fn is_reply_told(
-    explanations: i32,
-    before: &[u8],
-    t: &[u8],
-    s: session::Session,
-    passed: Passed,
-    room: &[u8],
-    length: usize,
-    at: Settled,
-) -> bool {
-    if room.len() < length {
-        return false;
-    }
-    let count = passed.count;
-    cli_explain::tell(explanations, before, t, s, &room[..length], count, at)
-}
-
-fn is_end_explained(
-    explanations: i32,
-    replies: &[u8],
-    before: &[u8],
-    t: &[u8],
-    s: session::Session,
-    marked: Passed,
-    at: Settled,
-    room: &[u8],
-    length: usize,
-) -> bool {
-    if explanations < 0 || length == 0 {
-        return true;
-    }
-    is_told(
-        is_reply_told(explanations, before, t, s, marked, room, length, at),
-        replies,
-    )
 }
 
 // ---- the end
@@ -456,7 +362,7 @@ fn end_step(
     s: session::Session,
     passed: Passed,
 ) -> Fed {
-    let before = table_before(t);
+    let before = cli_settled::table_before(t);
     let mut room = [0u8; 317];
     let a = calls::end(t, s, &mut room);
     end_stepped(out, explanations, replies, &before, t, s, passed, a, &room)
@@ -480,7 +386,7 @@ fn end_stepped(
     }
     let marked = cli_passed::marked_at_end(passed, s);
     let at = cli_passed::at_end(passed, marked, s);
-    if !is_end_explained(
+    if !cli_settled::is_end_explained(
         explanations,
         replies,
         before,

@@ -3,8 +3,8 @@ use native.Mathlib.Omega.{arith}
 use mathlib.Core.Path.{sym}
 use lib.Seq.{length-take-le}
 use borrow.Author.Needs.{needs}
-use Rattle.cli_feed.proofs.is_reply_told.Statement.{statement}
-use Rattle.cli_feed.proofs.is_reply_told.Tie as tie
+use Rattle.cli_settled.proofs.is_reply_told.Statement.{statement}
+use Rattle.cli_settled.proofs.is_reply_told.Tie as tie
 
 slice-aggregate-tell : tie.Need-slice-aggregate-tell
 slice-aggregate-tell c = sym (length-take-le _ _ (omega arith))

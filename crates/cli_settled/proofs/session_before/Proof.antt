@@ -3,8 +3,8 @@ use native.Mathlib.Omega.{arith}
 use mathlib.Core.Path.{sym}
 use lib.Seq.{length-take-le}
 use borrow.Author.Needs.{needs}
-use Rattle.cli_feed.proofs.session_before.Statement.{statement}
-use Rattle.cli_feed.proofs.session_before.Tie as tie
+use Rattle.cli_settled.proofs.session_before.Statement.{statement}
+use Rattle.cli_settled.proofs.session_before.Tie as tie
 
 slice-aggregate-read : tie.Need-slice-aggregate-read
 slice-aggregate-read c = sym (length-take-le _ _ (omega arith))
