@@ -2,7 +2,7 @@
 -- Assumes nothing.
 use Prim.Native.Nat.{ℕ}
 use mathlib.Core.Bool.{Bool, true, false}
-use mathlib.Core.List.{List}
+use mathlib.Core.List.{List, []}
 use lib.ListN.{replicate}
 use Rattle.ground.specs.Choice.{pick}
 use Rattle.customer.specs.declared.Customer.{Customer}
@@ -10,20 +10,23 @@ use Rattle.changeover.specs.Held.{heldKey}
 use Rattle.changeover.specs.declared.Key.the-variants.{Missing}
 use Rattle.table.specs.Table.{Table}
 use Rattle.table.specs.Named.{named}
+use Rattle.message.specs.Layout.{fieldText}
+use Rattle.message.specs.Contents.{contentsAs, atFault}
 use Rattle.message.specs.Fields.{senderOf, transportGenerationOf, workingGenerationOf}
 use Rattle.verdict.specs.declared.Outcome.{Outcome}
 use Rattle.notice.specs.Codes.{codeIn, codes}
 use Rattle.reply.specs.declared.Answering.{Answering}
 use Rattle.opening.specs.declared.Opening.{Opening}
 
--- the bare form: it needs the bank's settings alone
-unfoldable pub bareAnswer : Table → Opening → Bool → ℕ → ℕ → Answering
-bareAnswer t o pte code field =
+-- the bare form: the bank's settings, and of the message at fault, `m`, the contents of the field that it names
+unfoldable pub bareAnswer : Table → Opening → (pte : Bool) (code field : ℕ) (m : List ℕ) → Answering
+bareAnswer t o pte code field m =
     record {
       pte = pte;
       bare = true;
       code = code;
       field = field;
+      contents = contentsAs (fieldText field m);
       time = o .time;
       bank = t .settings .bank;
       software = t .settings .software;
@@ -44,6 +47,7 @@ fullAnswer t o pte out m closing =
       bare = false;
       code = out .code;
       field = out .field;
+      contents = contentsAs [];
       time = o .time;
       bank = t .settings .bank;
       software = t .settings .software;
@@ -54,7 +58,9 @@ fullAnswer t o pte out m closing =
       enclosed = out .enclosed;
     }
 
--- a verdict's reply: bare or full by its code
-unfoldable pub verdictAnswer : Table → Opening → Bool → Outcome → List ℕ → List ℕ → Answering
+-- a verdict's reply: bare or full by its code. A field that it names is of the message at fault
+unfoldable pub verdictAnswer : Table → Opening → Bool → Outcome → (m closing : List ℕ) → Answering
 verdictAnswer t o pte out m closing =
-    pick (codeIn (out .code) codes .bare) (bareAnswer t o pte (out .code) (out .field)) (fullAnswer t o pte out m closing)
+    pick (codeIn (out .code) codes .bare)
+    (bareAnswer t o pte (out .code) (out .field) (atFault (out .about) m closing))
+    (fullAnswer t o pte out m closing)

@@ -112,10 +112,16 @@ fn end_of(i: usize) -> usize {
     ENDS[i]
 }
 
-// Whether a reply's notice, past its clock time, is that of a code on a field.
+// Whether a reply's notice, past its clock time, is that of a code on a field: after the text comes a blank, and perhaps the field's
+// contents.
 fn is_notice(r: [u8; 237], code: u32, field: u32) -> bool {
-    let text = notice::text(code, field);
-    text::same_bytes(&text, &r[186..237])
+    let text = notice::text(code, field, message::no_contents());
+    let n = cli_texts::room::trimmed(&text);
+    if 50 < n {
+        return false;
+    }
+    let end = 186 + n;
+    text::same_bytes(&text[0..n], &r[186..end]) && r[end] == b' '
 }
 
 // The place of the field that a code's notice names, or 25.
@@ -142,7 +148,7 @@ pub fn named_in(r: [u8; 237]) -> usize {
 
 // A field's name, as the notice of 1010 has it past its twenty characters.
 fn name_of(i: usize) -> [u8; 237] {
-    let text = notice::text(1010, number_of(i));
+    let text = notice::text(1010, number_of(i), message::no_contents());
     let mut out = [b' '; 237];
     text::copy(&mut out, &text[20..35]);
     out

@@ -1,5 +1,5 @@
 // The sentences that people are shown, row by row, and how the sheet of a reply fills the places that they leave open.
-mod room;
+pub mod room;
 pub mod sheet;
 
 use crate::room::put_byte;

@@ -87,9 +87,10 @@ keeps-replies a b t =
       silent-same = λ q. absurd (false≢true (sym q));
     }
 
-keeps-bare : {s : Session} (w : List ℕ) (pte : Bool) (code field : ℕ) {u : Session} → Stays s u → Keeps s w (bareTurn s w pte code field u)
+keeps-bare : {s : Session} (w : List ℕ) (pte : Bool) (code field : ℕ) (chars : List ℕ) {u : Session} → Stays s u
+    → Keeps s w (bareTurn s w pte code field chars u)
 unfolding bareTurn
-keeps-bare w pte code field a = keeps-replies _ a (λ e f d. record { is-table = e; same-day = refl })
+keeps-bare w pte code field chars a = keeps-replies _ a (λ e f d. record { is-table = e; same-day = refl })
 
 keeps-esi : (s : Session) (w : List ℕ) (m : Collected) → (Fits s → length (m .text) ≡ 161) → Keeps s w (esiDone s w m)
 unfolding esiDone occasion
@@ -171,29 +172,29 @@ module _ (s : Session) (w : List ℕ) where
 
   -- ---- a record's end
 
-  keeps-shut : (pte : Bool) (code field : ℕ) → Keeps s w (bareTurn s w pte code field (shut s))
-  keeps-shut pte code field = keeps-bare w pte code field (stays-shut s)
+  keeps-shut : (pte : Bool) (code field : ℕ) (chars : List ℕ) → Keeps s w (bareTurn s w pte code field chars (shut s))
+  keeps-shut pte code field chars = keeps-bare w pte code field chars (stays-shut s)
 
   keeps-idle : Keeps s w (silent s w)
   keeps-idle = keeps-silent w (stays-same s) (λ h. h)
 
   keeps-first : Keeps s w (firstEnds s w)
   unfolding firstEnds
-  keeps-first = either-keeps _ _ _ keeps-esi-start (keeps-shut false 1010 10)
+  keeps-first = either-keeps _ _ _ keeps-esi-start (keeps-shut false 1010 10 _)
 
   keeps-outside : Keeps s w (outsideEnds s w)
   unfolding outsideEnds
   keeps-outside =
       either-keeps _ _ _ (opens-silent w (opens-suo-start s w))
-      (either-keeps _ _ _ (keeps-shut false 1011 10)
-      (either-keeps _ _ _ (opens-silent w (opens-skipped s)) (keeps-bare w true 1023 0 (opens-skipped s .moves))))
+      (either-keeps _ _ _ (keeps-shut false 1011 10 _)
+      (either-keeps _ _ _ (opens-silent w (opens-skipped s)) (keeps-bare w true 1023 0 _ (opens-skipped s .moves))))
 
   keeps-frame : Keeps s w (frameEnds s w)
   unfolding frameEnds
   keeps-frame =
       either-keeps _ _ _ keeps-var-start
-      (either-keeps _ _ _ (keeps-bare w true 1024 0 (opens-suo-start s w .moves))
-      (either-keeps _ _ _ (keeps-shut true 1024 0) (opens-silent w (opens-data s))))
+      (either-keeps _ _ _ (keeps-bare w true 1024 0 _ (opens-suo-start s w .moves))
+      (either-keeps _ _ _ (keeps-shut true 1024 0 _) (opens-silent w (opens-data s))))
 
   keeps-collecting : (kind : Kind) → Keeps s w (collectingEnds kind s w)
   unfolding collectingEnds
@@ -217,10 +218,10 @@ module _ (s : Session) (w : List ℕ) where
 
   keeps-passed-in : (p : Place) → Keeps s w (passedIn p s w)
   unfolding passedIn
-  keeps-passed-in BeforeEsi = keeps-shut false 1034 0
-  keeps-passed-in Outside = keeps-shut true 1034 0
-  keeps-passed-in (Collecting kind) = keeps-shut _ 1034 0
-  keeps-passed-in InData = keeps-shut true 1034 0
+  keeps-passed-in BeforeEsi = keeps-shut false 1034 0 _
+  keeps-passed-in Outside = keeps-shut true 1034 0 _
+  keeps-passed-in (Collecting kind) = keeps-shut _ 1034 0 _
+  keeps-passed-in InData = keeps-shut true 1034 0 _
   keeps-passed-in Closed = keeps-idle
 
   pub keeps-passed : Keeps s w (passed s w)
@@ -232,7 +233,7 @@ module _ (s : Session) (w : List ℕ) where
   keeps-short : (kind : Kind) → Keeps s w (cutShort kind s w)
   unfolding cutShort
   keeps-short Esi = esi-taken CutShort
-  keeps-short Suo = keeps-shut true 1032 0
+  keeps-short Suo = keeps-shut true 1032 0 _
   keeps-short Var = keeps-var s w _
 
   keeps-finished-in : (p : Place) → Keeps s w (finishedIn p s w)
@@ -240,7 +241,7 @@ module _ (s : Session) (w : List ℕ) where
   keeps-finished-in BeforeEsi = keeps-idle
   keeps-finished-in Outside = keeps-idle
   keeps-finished-in (Collecting kind) = keeps-short kind
-  keeps-finished-in InData = keeps-shut true 1024 0
+  keeps-finished-in InData = keeps-shut true 1024 0 _
   keeps-finished-in Closed = keeps-idle
 
   pub keeps-file : Keeps s w (fileEnded s w)

@@ -30,7 +30,7 @@ unfolding noneFails fails
 none-true [] n = refl
 none-true (c ∷ cs) n = join _ _ (ap fails (n .0)) (none-true cs (n .1))
 
-true-none : (cs : List Check) → noneFails cs ≡ true → NoneFails cs
+pub true-none : (cs : List Check) → noneFails cs ≡ true → NoneFails cs
 unfolding noneFails
 true-none [] e = tt
 true-none (c ∷ cs) e = (fails-true _ (left _ _ e), true-none cs (right _ _ e))

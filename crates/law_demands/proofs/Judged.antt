@@ -60,12 +60,12 @@ module _ (o : Opening) (made : ℕ) (b room : List ℕ) (h : 317 ≤ length room
     at {k} p =
         subst (λ (q : Opening). Shows q made b k) (a .opening) (subst (λ (m : ℕ). Shows (s .opening) m b k) (a .keys) p)
 
-    bare-shows : (pte : Bool) (code field : ℕ) (v : Session) → member code readingCodes ≡ true
-        → Shows (s .opening) (s .made) b (after (bareTurn s b pte code field v))
+    bare-shows : (pte : Bool) (code field : ℕ) (chars : List ℕ) (v : Session) → member code readingCodes ≡ true
+        → Shows (s .opening) (s .made) b (after (bareTurn s b pte code field chars v))
     unfolding bareTurn replies servedBy bareAnswer
-    bare-shows pte code field v m =
-        shows-bare pte code field m (shown-is (bareTurn s b pte code field v) (bare s pte code field v a m refl) refl)
-        (says-e (bareAnswer (tableOf b) (s .opening) pte code field) (reading-e code m))
+    bare-shows pte code field chars v m =
+        shows-bare pte code field chars m (shown-is (bareTurn s b pte code field chars v) (bare s pte code field chars v a m refl) refl)
+        (says-e (bareAnswer (tableOf b) (s .opening) pte code field chars) (reading-e code m))
         refl
 
     esi-shows : (m : Collected) → length (m .text) ≡ 161 → Shows (s .opening) (s .made) b (after (esiDone s b m))
@@ -96,8 +96,8 @@ module _ (o : Opening) (made : ℕ) (b room : List ℕ) (h : 317 ≤ length room
 
   turn-shows : (x : Turn) → Turned o made b x → Shows o made b (after x)
   turn-shows x (quiet v a e) = subst (λ (y : Turn). Shows o made b (after y)) (sym e) (silent-shows v)
-  turn-shows x (bare s pte code field v a m e) =
-      subst (λ (y : Turn). Shows o made b (after y)) (sym e) (at s a (bare-shows s a pte code field v m))
+  turn-shows x (bare s pte code field chars v a m e) =
+      subst (λ (y : Turn). Shows o made b (after y)) (sym e) (at s a (bare-shows s a pte code field chars v m))
   turn-shows x (esi s m a l e) = subst (λ (y : Turn). Shows o made b (after y)) (sym e) (at s a (esi-shows s a m l))
   turn-shows x (var s m a l e) = subst (λ (y : Turn). Shows o made b (after y)) (sym e) (at s a (var-shows s a m l))
 
@@ -132,7 +132,7 @@ k-accepts a k = by (isAccepted (a .code)) refl
 k-shown : (o : Opening) (made : ℕ) (b : List ℕ) (d : Done) (r : List ℕ) → Shows o made b d → shownBy d ≡ r ∷ [] → isK r ≡ true
     → Accepts o made b r (d .table)
 k-shown o made b d r (shows-nothing e t) q k = absurd (one-not-none (shownBy d) r e q)
-k-shown o made b d r (shows-bare pte code field m e f t) q k =
+k-shown o made b d r (shows-bare pte code field chars m e f t) q k =
     absurd (false≢true (sym f ∙ ap isK (one-is _ r (sym e ∙ q)) ∙ k))
 k-shown o made b d r (shows-esi m t e v) q k =
     let p = one-is r _ (sym q ∙ e) in

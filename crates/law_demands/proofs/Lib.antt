@@ -1,6 +1,7 @@
 -- The proofs of the statements, in their order.
 pub mod Refusals
 pub mod Accepted
+pub mod Values
 pub mod Judged
 pub mod Stays
 pub mod Ranges

@@ -13,9 +13,14 @@ use Prim.Native.Nat.{ℕ, _+_, _<_, _≤_}
 use mathlib.Core.Path.{_≡_}
 use mathlib.Core.Bool.{Bool, true, false}
 use mathlib.Core.List.{List, [], _∷_, _++_, map}
+use lib.Dec.{eqb}
 use lib.ListN.{length, drop, getD}
 use Rattle.ground.specs.Choice.{both, either, fails}
 use Rattle.ground.specs.Lists.{same, member}
+use Rattle.text.specs.Characters.{padded}
+use Rattle.text.specs.Letters.{letters}
+use Rattle.message.specs.Layout.{fieldText}
+use Rattle.message.specs.Contents.{atFault}
 use Rattle.message.specs.Fields.{receiverOf}
 use Rattle.table.specs.Table.{Table, placeOf, isUnknown, customerIn, withDay}
 use Rattle.table.specs.Written.{WrittenAs, written}
@@ -28,12 +33,13 @@ use Rattle.checks.specs.Checks.{esiChecks, frameChecks}
 use Rattle.message.specs.declared.Collected.{Collected}
 use Rattle.checks.specs.declared.Frame.{Frame}
 use Rattle.verdict.specs.Outcomes.{esiOutcome, esiLeaves, frameOutcome, frameLeaves}
-use Rattle.notice.specs.Codes.{codeIn, codes}
-use Rattle.reply.specs.Reply.{replyOf}
+use Rattle.notice.specs.Codes.{codeIn, codes, fieldName, shownByte}
+use Rattle.reply.specs.Reply.{clockText, noticeOf, replyOf}
 use Rattle.reply.specs.declared.Answering.{Answering}
 use Rattle.answers.specs.Answers.{bareAnswer, verdictAnswer}
 use Rattle.opening.specs.declared.Opening.{Opening}
-use Rattle.whole_file.specs.WholeFile.{Opened, Standing, Step, occasion, esiEnds, frameOf, varEnds, wholeFile}
+use Rattle.whole_file.specs.Messages.{begins}
+use Rattle.whole_file.specs.WholeFile.{Opened, Standing, Step, occasion, esiEnds, frameOf, varEnds, firstRecord, outsideRecord, wholeFile}
 use Rattle.session.specs.Ranges.{Fits, inRange}
 use Rattle.session.specs.declared.Session.{Session}
 use Rattle.calls.specs.Reading.{Done, openingRefusals, openingAnswer, openingGives, openingLeaves, readingRefusals, endingRefusals}
@@ -172,6 +178,40 @@ abbrev pub FrameJudged : Type 0
 FrameJudged = (o : Opening) (s : Standing) (f : Opened) (m : Collected)
     → Judges (frameChecks (s .table) (o .today) (o .kind) (frameOf f m)) (varEnds o s f m) (s .table)
 
+-- the notice of a reply shows, after the name of the field, one blank and that field of m as received, in which bytes outside 20 to 7E are
+-- `?`, cut where the 60 characters end
+pub record ShowsField (reply : Answering) (m : List ℕ) : Type 0 where
+  pub notice : noticeOf reply ≡ padded 60
+      (clockText (reply .time) ++ letters " " ++ codeIn (reply .code) codes .before ++ fieldName (reply .field) ++ letters " "
+      ++ map shownByte (fieldText (reply .field) m))
+
+-- the codes that show a field's contents, and no others do
+abbrev pub isFault : ℕ → Bool
+isFault code = either (eqb code 1010) (eqb code 1011)
+
+-- Every reply to an ESI with 1010 or 1011 shows the named field of that ESI.
+abbrev pub EsiFaultShown : Type 0
+EsiFaultShown = (o : Opening) (s : Standing) (m : Collected) (reply : Answering) → esiEnds o s m .says ≡ reply ∷ []
+    → isFault (reply .code) ≡ true → ShowsField reply (m .text)
+
+-- Every reply to a frame with 1010 or 1011 shows the named field of the message at fault: of the SUO where the first failing check is about
+-- the SUO, else of the VAR.
+abbrev pub FrameFaultShown : Type 0
+FrameFaultShown = (o : Opening) (s : Standing) (f : Opened) (m : Collected) (reply : Answering) → varEnds o s f m .says ≡ reply ∷ []
+    → isFault (reply .code) ≡ true
+    → (before : List Check) (here : Check) (after : List Check)
+    → frameChecks (s .table) (o .today) (o .kind) (frameOf f m) ≡ before ++ (here ∷ after) → noneFails before ≡ true → here .failed ≡ true
+    → ShowsField reply (atFault (here .about) (f .suo .text) (m .text))
+
+-- A first record that isn't an ESI, and an ESI outside a frame, get a reply that shows field 1 of that record: its first five characters, or
+-- fewer.
+abbrev pub TagFaultShown : Type 0
+TagFaultShown =
+    ((o : Opening) (s : Standing) (chars : List ℕ) (reply : Answering) → begins ">>ESI" chars ≡ false
+    → firstRecord o s chars .says ≡ reply ∷ [] → ShowsField reply chars) ×
+    ((o : Opening) (s : Standing) (told : Bool) (chars : List ℕ) (reply : Answering) → begins ">>SUO" chars ≡ false
+    → begins ">>ESI" chars ≡ true → outsideRecord o s told chars .says ≡ reply ∷ [] → ShowsField reply chars)
+
 -- what a served call shows and leaves, of a file opened by o in which so many keys were made, on the table's bytes b: nothing; a bare E of
 -- the reading rules; or the verdict on an ESI or on a frame, by the list of checks on the table as it stands then
 abbrev pub esiReply : Opening → ℕ → List ℕ → Collected → List ℕ → Answering
@@ -184,9 +224,9 @@ frameReply o made b f left =
 
 pub data Shows (o : Opening) (made : ℕ) (b : List ℕ) (d : Done) : Type 0 where
   shows-nothing : shownBy d ≡ [] → d .table ≡ b → Shows o made b d
-  shows-bare : (pte : Bool) (code field : ℕ) → member code readingCodes ≡ true
-      → shownBy d ≡ replyOf (bareAnswer (tableOf b) o pte code field) ∷ []
-      → isK (replyOf (bareAnswer (tableOf b) o pte code field)) ≡ false
+  shows-bare : (pte : Bool) (code field : ℕ) (chars : List ℕ) → member code readingCodes ≡ true
+      → shownBy d ≡ replyOf (bareAnswer (tableOf b) o pte code field chars) ∷ []
+      → isK (replyOf (bareAnswer (tableOf b) o pte code field chars)) ≡ false
       → d .table ≡ b
       → Shows o made b d
   shows-esi : (m : Collected) → d .table ≡ esiLeaves b (occasion o made) m

@@ -36,7 +36,8 @@ use Rattle.checks.specs.Checks.{typeAllowed, checksumDiffers, digestDiffers, is
 use Rattle.checks.specs.Checks.{esiKeyChecks, typeChecks, esiChecks, pairChecks, keyChecks, frameChecks}
 use Rattle.verdict.specs.Outcomes.{grantTo, recordAfter, tableAfter, outcomeOf, isSound, tableBy, esiOutcome, esiTable, frameOutcome}
 use Rattle.verdict.specs.Outcomes.{frameTable, storedAt, bytesAfter, bytesBy, esiLeaves, frameLeaves}
-use Rattle.notice.specs.Codes.{codeIn, fieldName, textOf}
+use Rattle.message.specs.Contents.{contentsAs, heldIn, atFault}
+use Rattle.notice.specs.Codes.{codeIn, fieldName, shownByte, valueText, textOf}
 use Rattle.reply.specs.Reply.{clockText, noticeOf, hexOr, sealed, sealedFlag, joined, head, summed, checksumKey}
 use Rattle.reply.specs.Reply.{enclosedKey, replyOf, replyLength, replied, writtenLength}
 use Rattle.answers.specs.Answers.{bareAnswer, fullAnswer, verdictAnswer}
@@ -46,7 +47,7 @@ use Rattle.whole_file.specs.WholeFile.{withRecord, frameRecord, recordIn, pastI
 use Rattle.whole_file.specs.Messages.{begins, extentOf, isWhole, wantsMore, collectedAs, oneTime, transportHeld, oneTimeOf, onceOf}
 use Rattle.whole_file.specs.Records.{withoutCr, lastItem, grown, endedBy, itemsFrom}
 use Rattle.law_examples.specs.Bank.{bankWith, esi, suo, var}
-use Rattle.law_example_files.specs.Files.{hello, shown, answers, line, goesOn, lateStanding, lateAnswers}
+use Rattle.law_example_files.specs.Files.{hello, shown, answers, notices, line, goesOn, lateStanding, lateAnswers}
 use Rattle.law_examples.specs.Examples.{holdAll}
 use Rattle.law_example_files.specs.Files.{earlyFiles}
 
@@ -65,11 +66,11 @@ unfolding all member same part overlay both either fails pick one between letter
     transportGenerationOf workingGenerationOf onceFieldOf digestFieldOf checksumFieldOf requestOf firstFailing typeAllowed
     checksumDiffers digestDiffers isMissing keyOr0 partyChecks stampChecks roomChecks esiKeyChecks typeChecks esiChecks pairChecks
     keyChecks frameChecks grantTo recordAfter tableAfter outcomeOf isSound tableBy esiOutcome esiTable frameOutcome frameTable storedAt
-    bytesAfter bytesBy esiLeaves frameLeaves codeIn fieldName textOf clockText noticeOf hexOr sealed sealedFlag joined
-    head summed checksumKey enclosedKey replyOf replyLength replied writtenLength bareAnswer fullAnswer verdictAnswer moved
+    bytesAfter bytesBy esiLeaves frameLeaves contentsAs heldIn atFault codeIn fieldName shownByte valueText textOf clockText noticeOf hexOr
+    sealed sealedFlag joined head summed checksumKey enclosedKey replyOf replyLength replied writtenLength bareAnswer fullAnswer verdictAnswer moved
     silent replies esiSays pteSays occasion afterEsi esiEnds suoEnds frameOf varEnds esiGoesOn suoGoesOn varGoesOn esiStarts suoStarts
     varStarts firstRecord outsideRecord withRecord frameRecord recordIn pastIn endIn givenAt sooner toldOf atStart wholeFile begins
     Rattle.whole_file.specs.Messages.textOf extentOf isWhole wantsMore collectedAs oneTime transportHeld oneTimeOf onceOf withoutCr
-    lastItem grown endedBy itemsFrom bankWith esi suo var shown answers line goesOn lateStanding lateAnswers holdAll hello
+    lastItem grown endedBy itemsFrom bankWith esi suo var shown answers notices line goesOn lateStanding lateAnswers holdAll hello
     Rattle.law_example_files.specs.Files.replied Rattle.law_example_files.specs.Files.opening
 early-files = refl

@@ -36,7 +36,8 @@ use Rattle.checks.specs.Checks.{typeAllowed, checksumDiffers, digestDiffers, is
 use Rattle.checks.specs.Checks.{esiKeyChecks, typeChecks, esiChecks, pairChecks, keyChecks, frameChecks}
 use Rattle.verdict.specs.Outcomes.{grantTo, recordAfter, tableAfter, outcomeOf, isSound, tableBy, esiOutcome, esiTable, frameOutcome}
 use Rattle.verdict.specs.Outcomes.{frameTable, storedAt, bytesAfter, bytesBy, esiLeaves, frameLeaves}
-use Rattle.notice.specs.Codes.{codeIn, fieldName, textOf}
+use Rattle.message.specs.Contents.{contentsAs, heldIn, atFault}
+use Rattle.notice.specs.Codes.{codeIn, fieldName, shownByte, valueText, textOf}
 use Rattle.reply.specs.Reply.{clockText, noticeOf, hexOr, sealed, sealedFlag, joined, head, summed, checksumKey}
 use Rattle.reply.specs.Reply.{enclosedKey, replyOf, replyLength, replied, writtenLength}
 use Rattle.answers.specs.Answers.{bareAnswer, fullAnswer, verdictAnswer}
@@ -65,8 +66,8 @@ unfolding all member same part overlay both either fails pick one between letter
     transportGenerationOf workingGenerationOf onceFieldOf digestFieldOf checksumFieldOf requestOf firstFailing typeAllowed
     checksumDiffers digestDiffers isMissing keyOr0 partyChecks stampChecks roomChecks esiKeyChecks typeChecks esiChecks pairChecks
     keyChecks frameChecks grantTo recordAfter tableAfter outcomeOf isSound tableBy esiOutcome esiTable frameOutcome frameTable storedAt
-    bytesAfter bytesBy esiLeaves frameLeaves codeIn fieldName textOf clockText noticeOf hexOr sealed sealedFlag joined
-    head summed checksumKey enclosedKey replyOf replyLength replied writtenLength bareAnswer fullAnswer verdictAnswer moved
+    bytesAfter bytesBy esiLeaves frameLeaves contentsAs heldIn atFault codeIn fieldName shownByte valueText textOf clockText noticeOf hexOr
+    sealed sealedFlag joined head summed checksumKey enclosedKey replyOf replyLength replied writtenLength bareAnswer fullAnswer verdictAnswer moved
     silent replies esiSays pteSays occasion afterEsi esiEnds suoEnds frameOf varEnds esiGoesOn suoGoesOn varGoesOn esiStarts suoStarts
     varStarts firstRecord outsideRecord withRecord frameRecord recordIn pastIn endIn givenAt sooner toldOf atStart wholeFile begins
     Rattle.whole_file.specs.Messages.textOf extentOf isWhole wantsMore collectedAs oneTime transportHeld oneTimeOf onceOf withoutCr

@@ -6,7 +6,7 @@ use mathlib.Core.Bool.{Bool, false}
 use mathlib.Core.List.{List, [], _∷_, _++_}
 use lib.ListN.{length, take, drop, replicate}
 use Rattle.ground.specs.Lists.{same}
-use Rattle.text.specs.Characters.{blank}
+use Rattle.text.specs.Characters.{blank, padded}
 use Rattle.text.specs.Numbers.{decimal}
 use Rattle.text.specs.Letters.{letters}
 use Rattle.message.specs.Layout.{field, fieldText}
@@ -35,7 +35,12 @@ unfoldable pub replied : List Given → List ℕ
 replied [] = []
 replied (g ∷ l) = g .reply ++ replied l
 
--- document 01's one whole reply
+-- the notice of the one reply to a file
+unfoldable pub notices : List ℕ → String → Bool
+notices file text =
+    same (fieldText (field 20) (replied (wholeFile opening (bankWith []) file .given))) (padded 60 (letters "09:15:00 " ++ letters text))
+
+-- document 01's one whole reply, with document 02's value
 unfoldable pub hello : List ℕ
 hello =
     letters ">>ESI237120E1010FRONT 4         SMH" ++
@@ -44,14 +49,14 @@ hello =
     replicate 58 blank ++
     letters "0" ++
     replicate 16 blank ++
-    letters "09:15:00 MUOTOVIRHE KENTÄSSÄ SANOMATUNNUS" ++
-    replicate 19 blank
+    letters "09:15:00 MUOTOVIRHE KENTÄSSÄ SANOMATUNNUS HELLO" ++
+    replicate 13 blank
 
 -- ---- before an ESI is accepted: every reply is an ESI (237)
 
 abbrev pub earlyFiles : List Bool
 earlyFiles =
-    -- HELLO, with the whole reply of document 01; an empty file; a lone LF
+    -- HELLO, with the whole reply of document 01 and its value; an empty file; a lone LF
     same (replied (wholeFile opening (bankWith []) (letters "HELLO") .given)) hello ∷
     answers (letters "HELLO") (5 ∷ 237 ∷ 1010 ∷ []) ∷
     answers [] [] ∷
@@ -68,7 +73,15 @@ earlyFiles =
     answers (line ">>ESI161120") (12 ∷ 237 ∷ 1032 ∷ []) ∷
     answers (letters ">>ESI161120" ++ replicate 150 blank ++ letters "X") (162 ∷ 237 ∷ 1010 ∷ []) ∷
     -- any other first record, a SUO too
-    answers (line ">>SUO128120" ++ line ">>ESI161120") (12 ∷ 237 ∷ 1010 ∷ []) ∷ []
+    answers (line ">>SUO128120" ++ line ">>ESI161120") (12 ∷ 237 ∷ 1010 ∷ []) ∷
+    -- the value: the first five characters, or fewer, without the CR before an LF; the length field, of surplus characters too
+    notices (letters "HELLO, BANK") "MUOTOVIRHE KENTÄSSÄ SANOMATUNNUS HELLO" ∷
+    notices (letters "HE" ++ (cr ∷ lf ∷ [])) "MUOTOVIRHE KENTÄSSÄ SANOMATUNNUS HE" ∷
+    notices (letters "HE" ++ (cr ∷ [])) "MUOTOVIRHE KENTÄSSÄ SANOMATUNNUS HE?" ∷
+    notices (0x1F ∷ 0x20 ∷ 0x7E ∷ 0x7F ∷ 0xC4 ∷ []) "MUOTOVIRHE KENTÄSSÄ SANOMATUNNUS ? ~??" ∷
+    notices (line ">>ESI1X1120") "MUOTOVIRHE KENTÄSSÄ SANOMAPITUUS 1X1" ∷
+    notices (line ">>ESI160120") "ARVOVIRHE KENTÄSSÄ SANOMAPITUUS 160" ∷
+    notices (letters ">>ESI161120" ++ replicate 150 blank ++ letters "X") "MUOTOVIRHE KENTÄSSÄ SANOMAPITUUS 161" ∷ []
 
 -- ---- after it
 

@@ -1,21 +1,20 @@
 -- Which codes are K: those that acceptance grants, with the whole reply; the code of no check that fails is.
 -- Assumes nothing.
 use Prim.Native.Nat.{ℕ}
-use mathlib.Core.Path.{_≡_, refl, sym, ap, _∙_}
-use mathlib.Core.List.{List, [], _∷_}
+use mathlib.Core.Path.{_≡_, refl}
+use mathlib.Core.List.{List}
 use mathlib.Core.Bool.{Bool, true, false}
-use native.Mathlib.Omega.{arith}
 use Rattle.ground.specs.Choice.{both, fails, pick}
 use Rattle.ground.specs.Lists.{all, member}
-use Rattle.ground.proofs.Choices.{left, right, fails-true}
+use Rattle.ground.proofs.Choices.{fails-true}
 use Rattle.ground.proofs.Lists.{all-member}
-use Rattle.ground.specs.First.{firstThat}
 use Rattle.calendar.specs.declared.Date.{Date}
 use Rattle.acceptance.proofs.Grants.{codes as granted, grant-code}
 use Rattle.table.specs.Table.{Table}
 use Rattle.message.specs.declared.Fault.the-variants.{Found}
 use Rattle.message.specs.Layout.{layout}
-use Rattle.message.specs.Order.{Check, firstFailing}
+use Rattle.message.specs.Order.{firstFailing}
+use Rattle.message.proofs.Order.{eachCheck, first-each}
 use Rattle.message.specs.Rules.{eachField, formChecks}
 use Rattle.message.specs.declared.About.{About}
 use Rattle.checks.specs.Checks.{partyChecks, stampChecks, roomChecks, esiKeyChecks, typeChecks, pairChecks, keyChecks, esiChecks}
@@ -66,34 +65,25 @@ module _ (t : Table) (o : Occasion) (m closing : List ℕ) where
 
 -- ---- the code of a check that fails is E
 
-unfoldable allE : List Check → Bool
-allE [] = true
-allE (c ∷ cs) = both (fails (isAccepted (c .code))) (allE cs)
+isE : ℕ → ℕ → Bool
+isE code field = fails (isAccepted code)
 
-first-e : (cs : List Check) (code field : ℕ) (about : About) → allE cs ≡ true → firstFailing cs ≡ Found code field about
-    → isAccepted code ≡ false
-unfolding allE firstFailing firstThat pick
-first-e [] code field about a e = absurd (let z : _≡_ {A = ℕ} 0 1 = cc in omega arith)
-first-e (c ∷ cs) code field about a e = by (c .failed) e (first-e cs code field about (right _ _ a))
-  where
-    by : (t : Bool) → pick t (Found (c .code) (c .field) (c .about)) (firstFailing cs) ≡ Found code field about
-        → (firstFailing cs ≡ Found code field about → isAccepted code ≡ false) → isAccepted code ≡ false
-    by true p r = let q : c .code ≡ code = cc in ap isAccepted (sym q) ∙ fails-true _ (left _ _ a)
-    by false p r = r p
-
-esi-all-e : (t : Table) (today : Date) (m : Collected) → allE (esiChecks t today m) ≡ true
-unfolding allE esiChecks formChecks eachField layout partyChecks stampChecks esiKeyChecks roomChecks both fails codeIn pick
+esi-all-e : (t : Table) (today : Date) (m : Collected) → eachCheck isE (esiChecks t today m) ≡ true
+unfolding isE eachCheck esiChecks formChecks eachField layout partyChecks stampChecks esiKeyChecks roomChecks both fails codeIn pick
 esi-all-e t today m = refl
 
-frame-all-e : (t : Table) (today : Date) (kind : ℕ) (f : Frame) → allE (frameChecks t today kind f) ≡ true
-unfolding allE frameChecks formChecks eachField layout partyChecks typeChecks pairChecks stampChecks keyChecks roomChecks both fails
+frame-all-e : (t : Table) (today : Date) (kind : ℕ) (f : Frame) → eachCheck isE (frameChecks t today kind f) ≡ true
+unfolding isE eachCheck frameChecks formChecks eachField layout partyChecks typeChecks pairChecks stampChecks keyChecks roomChecks both fails
     codeIn pick
 frame-all-e t today kind f = refl
 
 pub esi-e : (t : Table) (today : Date) (m : Collected) (code field : ℕ) (about : About)
     → firstFailing (esiChecks t today m) ≡ Found code field about → isAccepted code ≡ false
-esi-e t today m code field about e = first-e (esiChecks t today m) code field about (esi-all-e t today m) e
+unfolding isE
+esi-e t today m code field about e = fails-true _ (first-each isE (esiChecks t today m) code field about (esi-all-e t today m) e)
 
 pub frame-e : (t : Table) (today : Date) (kind : ℕ) (f : Frame) (code field : ℕ) (about : About)
     → firstFailing (frameChecks t today kind f) ≡ Found code field about → isAccepted code ≡ false
-frame-e t today kind f code field about e = first-e (frameChecks t today kind f) code field about (frame-all-e t today kind f) e
+unfolding isE
+frame-e t today kind f code field about e =
+    fails-true _ (first-each isE (frameChecks t today kind f) code field about (frame-all-e t today kind f) e)

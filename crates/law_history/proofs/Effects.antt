@@ -69,10 +69,10 @@ module _ (w : List ℕ) (e : isTable w ≡ true) where
   unfolding silent
   effect-silent u = unsaid refl refl
 
-  effect-bare : (s : Session) (pte : Bool) (code field : ℕ) (u : Session) → isAccepted code ≡ false
-      → Effect w (bareTurn s w pte code field u)
+  effect-bare : (s : Session) (pte : Bool) (code field : ℕ) (chars : List ℕ) (u : Session) → isAccepted code ≡ false
+      → Effect w (bareTurn s w pte code field chars u)
   unfolding bareTurn replies bareAnswer
-  effect-bare s pte code field u n =
+  effect-bare s pte code field chars u n =
       let l = table-long w e in
       refused refl
       (record { bank = l .0; software = l .1; message = length-replicate {A = ℕ} 161 0; closing = length-replicate {A = ℕ} 161 0 })
@@ -171,8 +171,8 @@ module _ (w : List ℕ) (e : isTable w ≡ true) where
 pub effect : (o : Opening) (made : ℕ) (w : List ℕ) (x : Turn) → isTable w ≡ true → o .today .yymmdd ≡ tableOf w .day
     → Turned o made w x → Effect w x
 effect o made w x e d (quiet u a q) = subst (Effect w) (sym q) (effect-silent w e u)
-effect o made w x e d (bare s pte code field u a n q) =
-    subst (Effect w) (sym q) (effect-bare w e s pte code field u (reading-e code n))
+effect o made w x e d (bare s pte code field chars u a n q) =
+    subst (Effect w) (sym q) (effect-bare w e s pte code field chars u (reading-e code n))
 effect o made w x e d (esi s m a l q) =
     subst (Effect w) (sym q) (effect-esi w e s (ap (λ (p : Opening). p .today .yymmdd) (a .opening) ∙ d) m l)
 effect o made w x e d (var s m a l q) =

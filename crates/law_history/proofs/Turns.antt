@@ -33,8 +33,8 @@ use Rattle.law_history.proofs.Sessions.{Of, of-line, of-heard, of-empty
 -- a turn of a file opened by o, in which so many keys were made, on the table's bytes w
 pub data Turned (o : Opening) (made : ℕ) (w : List ℕ) (x : Turn) : Type 0 where
   quiet : (u : Session) → Of o made u → x ≡ silent u w → Turned o made w x
-  bare : (s : Session) (pte : Bool) (code field : ℕ) (u : Session) → Of o made s → member code readingCodes ≡ true
-      → x ≡ bareTurn s w pte code field u → Turned o made w x
+  bare : (s : Session) (pte : Bool) (code field : ℕ) (chars : List ℕ) (u : Session) → Of o made s → member code readingCodes ≡ true
+      → x ≡ bareTurn s w pte code field chars u → Turned o made w x
   esi : (s : Session) (m : Collected) → Of o made s → length (m .text) ≡ 161 → x ≡ esiDone s w m → Turned o made w x
   var : (s : Session) (m : Collected) → Of o made s → length (m .text) ≡ 161 → x ≡ varDone s w m → Turned o made w x
 
@@ -69,9 +69,9 @@ module _ (o : Opening) (made : ℕ) (w : List ℕ) where
   both-turned t x y p q = picked (Turned o made w) t x y (λ e. p) (λ e. q)
 
   module _ (s : Session) (a : Of o made s) where
-    turned-bare : (pte : Bool) (code field : ℕ) (u : Session) → member code readingCodes ≡ true
-        → Turned o made w (bareTurn s w pte code field u)
-    turned-bare pte code field u e = bare s pte code field u a e refl
+    turned-bare : (pte : Bool) (code field : ℕ) (chars : List ℕ) (u : Session) → member code readingCodes ≡ true
+        → Turned o made w (bareTurn s w pte code field chars u)
+    turned-bare pte code field chars u e = bare s pte code field chars u a e refl
 
     -- ---- a message's end
 
@@ -101,21 +101,21 @@ module _ (o : Opening) (made : ℕ) (w : List ℕ) where
 
     turned-first : Turned o made w (firstEnds s w)
     unfolding firstEnds
-    turned-first = both-turned _ _ _ turned-esi-start (turned-bare false 1010 10 (shut s) is1010)
+    turned-first = both-turned _ _ _ turned-esi-start (turned-bare false 1010 10 _ (shut s) is1010)
 
     turned-outside : Turned o made w (outsideEnds s w)
     unfolding outsideEnds
     turned-outside =
         both-turned _ _ _ (quiet _ (of-suo-start o s a w) refl)
-        (both-turned _ _ _ (turned-bare false 1011 10 (shut s) is1011)
-        (both-turned _ _ _ (quiet _ (of-empty o s a Outside true) refl) (turned-bare true 1023 0 (placed s Outside true nothing) is1023)))
+        (both-turned _ _ _ (turned-bare false 1011 10 _ (shut s) is1011)
+        (both-turned _ _ _ (quiet _ (of-empty o s a Outside true) refl) (turned-bare true 1023 0 _ (placed s Outside true nothing) is1023)))
 
     turned-frame : Turned o made w (frameEnds s w)
     unfolding frameEnds
     turned-frame =
         both-turned _ _ _ turned-var-start
-        (both-turned _ _ _ (turned-bare true 1024 0 (suoStart s w) is1024)
-        (both-turned _ _ _ (turned-bare true 1024 0 (shut s) is1024) (quiet _ (of-taken o s a) refl)))
+        (both-turned _ _ _ (turned-bare true 1024 0 _ (suoStart s w) is1024)
+        (both-turned _ _ _ (turned-bare true 1024 0 _ (shut s) is1024) (quiet _ (of-taken o s a) refl)))
 
     turned-collecting : (kind : Kind) → Turned o made w (collectingEnds kind s w)
     unfolding collectingEnds
@@ -139,10 +139,10 @@ module _ (o : Opening) (made : ℕ) (w : List ℕ) where
 
     turned-passed-in : (p : Place) → Turned o made w (passedIn p s w)
     unfolding passedIn
-    turned-passed-in BeforeEsi = turned-bare false 1034 0 (shut s) is1034
-    turned-passed-in Outside = turned-bare true 1034 0 (shut s) is1034
-    turned-passed-in (Collecting kind) = turned-bare (pick (isEsi kind) false true) 1034 0 (shut s) is1034
-    turned-passed-in InData = turned-bare true 1034 0 (shut s) is1034
+    turned-passed-in BeforeEsi = turned-bare false 1034 0 _ (shut s) is1034
+    turned-passed-in Outside = turned-bare true 1034 0 _ (shut s) is1034
+    turned-passed-in (Collecting kind) = turned-bare (pick (isEsi kind) false true) 1034 0 _ (shut s) is1034
+    turned-passed-in InData = turned-bare true 1034 0 _ (shut s) is1034
     turned-passed-in Closed = quiet s a refl
 
     turned-passed : Turned o made w (passed s w)
@@ -154,7 +154,7 @@ module _ (o : Opening) (made : ℕ) (w : List ℕ) where
     turned-cut : (kind : Kind) → Turned o made w (cutShort kind s w)
     unfolding cutShort
     turned-cut Esi = turned-esi CutShort
-    turned-cut Suo = turned-bare true 1032 0 (shut s) is1032
+    turned-cut Suo = turned-bare true 1032 0 _ (shut s) is1032
     turned-cut Var = turned-var CutShort
 
     turned-finished : (p : Place) → Turned o made w (finishedIn p s w)
@@ -162,7 +162,7 @@ module _ (o : Opening) (made : ℕ) (w : List ℕ) where
     turned-finished BeforeEsi = quiet s a refl
     turned-finished Outside = quiet s a refl
     turned-finished (Collecting kind) = turned-cut kind
-    turned-finished InData = turned-bare true 1024 0 (shut s) is1024
+    turned-finished InData = turned-bare true 1024 0 _ (shut s) is1024
     turned-finished Closed = quiet s a refl
 
     pub turned-file : Turned o made w (fileEnded s w)
@@ -192,9 +192,9 @@ module _ (o : Opening) (made : ℕ) (w : List ℕ) where
   unfolding scanOn
   scan-last x r e = sym (ap (λ (y : Scan). y .turn) (picks {A = Scan} _ (record { turn = x; taken = 1 }) _ e))
 
-  given-bare : (s : Session) (pte : Bool) (code field : ℕ) (u : Session) → bareTurn s w pte code field u .out .reply .given ≡ true
+  given-bare : (s : Session) (pte : Bool) (code field : ℕ) (chars : List ℕ) (u : Session) → bareTurn s w pte code field chars u .out .reply .given ≡ true
   unfolding bareTurn replies
-  given-bare s pte code field u = refl
+  given-bare s pte code field chars u = refl
 
   given-esi : (s : Session) (m : Collected) → esiDone s w m .out .reply .given ≡ true
   unfolding esiDone replies
@@ -210,7 +210,7 @@ module _ (o : Opening) (made : ℕ) (w : List ℕ) where
   -- a turn either says nothing, and leaves the table's bytes, or gives a reply
   pub says : (x : Turn) → Turned o made w x → ((u : Session) × Of o made u × (x ≡ silent u w)) ⊎ (x .out .reply .given ≡ true)
   says x (quiet u a e) = inl (u, a, e)
-  says x (bare s pte code field u a n e) = inr (ap given e ∙ given-bare s pte code field u)
+  says x (bare s pte code field chars u a n e) = inr (ap given e ∙ given-bare s pte code field chars u)
   says x (esi s m a l e) = inr (ap given e ∙ given-esi s m)
   says x (var s m a l e) = inr (ap given e ∙ given-var s m)
 

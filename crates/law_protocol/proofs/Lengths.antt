@@ -59,9 +59,10 @@ settings-long w e =
     let f = Sound.parts (tableOf w) (Decode.is-written w e .sound) .fit in
     (eqb-true _ _ (left _ _ f), eqb-true _ _ (left _ _ (right _ _ f)))
 
-bare-long : (w : List ℕ) (o : Opening) (pte : Bool) (code field : ℕ) → isTable w ≡ true → Long (bareAnswer (tableOf w) o pte code field)
+bare-long : (w : List ℕ) (o : Opening) (pte : Bool) (code field : ℕ) (m : List ℕ) → isTable w ≡ true
+    → Long (bareAnswer (tableOf w) o pte code field m)
 unfolding bareAnswer
-bare-long w o pte code field e =
+bare-long w o pte code field m e =
     let k = settings-long w e in
     record { bank-long = k .0; software-long = k .1; message-long = zeros 161; closing-long = zeros 161 }
 
@@ -71,7 +72,7 @@ verdict-long : (w : List ℕ) (o : Opening) (pte : Bool) (out : Outcome) (m clos
 unfolding verdictAnswer fullAnswer
 verdict-long w o pte out m closing e l c =
     let k = settings-long w e in
-    picked Long _ _ _ (λ b. bare-long w o pte (out .code) (out .field) e)
+    picked Long _ _ _ (λ b. bare-long w o pte (out .code) (out .field) _ e)
     (λ b. record { bank-long = k .0; software-long = k .1; message-long = l; closing-long = c })
 
 -- ---- the answer of every turn
@@ -97,9 +98,9 @@ module _ (s : Session) (w : List ℕ) (r : Rests s w) where
   either-long : (t : Bool) (x y : Turn) → Speaks x → Speaks y → Speaks (pick t x y)
   either-long t x y a b = picked Speaks t x y (λ e. a) (λ e. b)
 
-  bare-turn : (pte : Bool) (code field : ℕ) (u : Session) → Speaks (bareTurn s w pte code field u)
+  bare-turn : (pte : Bool) (code field : ℕ) (chars : List ℕ) (u : Session) → Speaks (bareTurn s w pte code field chars u)
   unfolding bareTurn
-  bare-turn pte code field u = replies-long u w (bare-long w (s .opening) pte code field (r .table))
+  bare-turn pte code field chars u = replies-long u w (bare-long w (s .opening) pte code field chars (r .table))
 
   esi-long : (extent : Extent) → Speaks (esiDone s w (collectedBy Esi extent (s .gathered)))
   unfolding esiDone collectedBy occasion
@@ -126,19 +127,19 @@ module _ (s : Session) (w : List ℕ) (r : Rests s w) where
 
   first-long : Speaks (firstEnds s w)
   unfolding firstEnds esiStart
-  first-long = either-long _ _ _ (either-long _ _ _ esi-on-long (esi-long (extentBy Esi s))) (bare-turn false 1010 10 _)
+  first-long = either-long _ _ _ (either-long _ _ _ esi-on-long (esi-long (extentBy Esi s))) (bare-turn false 1010 10 _ _)
 
   outside-long : Speaks (outsideEnds s w)
   unfolding outsideEnds
   outside-long =
       either-long _ _ _ (silent-long _ w)
-      (either-long _ _ _ (bare-turn false 1011 10 _) (either-long _ _ _ (silent-long _ w) (bare-turn true 1023 0 _)))
+      (either-long _ _ _ (bare-turn false 1011 10 _ _) (either-long _ _ _ (silent-long _ w) (bare-turn true 1023 0 _ _)))
 
   frame-long : Speaks (frameEnds s w)
   unfolding frameEnds varStart
   frame-long =
       either-long _ _ _ (either-long _ _ _ var-on-long (var-long (extentBy Var s)))
-      (either-long _ _ _ (bare-turn true 1024 0 _) (either-long _ _ _ (bare-turn true 1024 0 _) (silent-long _ w)))
+      (either-long _ _ _ (bare-turn true 1024 0 _ _) (either-long _ _ _ (bare-turn true 1024 0 _ _) (silent-long _ w)))
 
   collecting-long : (kind : Kind) → Speaks (collectingEnds kind s w)
   unfolding collectingEnds
@@ -160,10 +161,10 @@ module _ (s : Session) (w : List ℕ) (r : Rests s w) where
 
   passed-in-long : (p : Place) → Speaks (passedIn p s w)
   unfolding passedIn
-  passed-in-long BeforeEsi = bare-turn false 1034 0 _
-  passed-in-long Outside = bare-turn true 1034 0 _
-  passed-in-long (Collecting kind) = bare-turn _ 1034 0 _
-  passed-in-long InData = bare-turn true 1034 0 _
+  passed-in-long BeforeEsi = bare-turn false 1034 0 _ _
+  passed-in-long Outside = bare-turn true 1034 0 _ _
+  passed-in-long (Collecting kind) = bare-turn _ 1034 0 _ _
+  passed-in-long InData = bare-turn true 1034 0 _ _
   passed-in-long Closed = silent-long _ w
 
   passed-long : Speaks (passed s w)
@@ -173,7 +174,7 @@ module _ (s : Session) (w : List ℕ) (r : Rests s w) where
   short-long : (kind : Kind) → Speaks (cutShort kind s w)
   unfolding cutShort
   short-long Esi = esi-long CutShort
-  short-long Suo = bare-turn true 1032 0 _
+  short-long Suo = bare-turn true 1032 0 _ _
   short-long Var = var-long CutShort
 
   finished-long : (p : Place) → Speaks (finishedIn p s w)
@@ -181,7 +182,7 @@ module _ (s : Session) (w : List ℕ) (r : Rests s w) where
   finished-long BeforeEsi = silent-long _ w
   finished-long Outside = silent-long _ w
   finished-long (Collecting kind) = short-long kind
-  finished-long InData = bare-turn true 1024 0 _
+  finished-long InData = bare-turn true 1024 0 _ _
   finished-long Closed = silent-long _ w
 
   ended-long : Speaks (fileEnded s w)

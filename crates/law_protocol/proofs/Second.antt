@@ -3,7 +3,7 @@
 -- Assumes nothing.
 use Prim.Native.Nat.{ℕ}
 use mathlib.Core.Path.{_≡_, refl, sym, ap, _∙_, subst}
-use mathlib.Core.List.{List}
+use mathlib.Core.List.{List, []}
 use mathlib.Core.Bool.{Bool, true, false, false≢true}
 use lib.Dec.{ltb}
 use Rattle.ground.specs.Choice.{pick}
@@ -76,9 +76,9 @@ module _ (s : Session) (w : List ℕ) (c : s .line .cr ≡ false) where
   either-leaves : (t : Bool) (x y : Turn) → Leaves x → Leaves y → Leaves (pick t x y)
   either-leaves t x y a b = picked Leaves t x y (λ e. a) (λ e. b)
 
-  shut-leaves : (pte : Bool) (code field : ℕ) → Leaves (bareTurn s w pte code field (shut s))
+  shut-leaves : (pte : Bool) (code field : ℕ) (chars : List ℕ) → Leaves (bareTurn s w pte code field chars (shut s))
   unfolding bareTurn shut placed isDue
-  shut-leaves pte code field = undue-leaves _ (shut s) w refl
+  shut-leaves pte code field chars = undue-leaves _ (shut s) w refl
 
   esi-leaves : (m : Collected) → Leaves (esiDone s w m)
   unfolding esiDone judged
@@ -112,29 +112,29 @@ module _ (s : Session) (w : List ℕ) (c : s .line .cr ≡ false) where
   unfolding suoStart
   suo-start-left = picked Left _ _ _ (λ e. suo-on-left) (λ e. suo-left _)
 
-  second-leaves : Leaves (bareTurn s w true 1024 0 (suoStart s w))
+  second-leaves : Leaves (bareTurn s w true 1024 0 [] (suoStart s w))
   unfolding bareTurn replies
   second-leaves e d = suo-start-left
 
-  skipped-leaves : Leaves (bareTurn s w true 1023 0 (placed s Outside true nothing))
+  skipped-leaves : Leaves (bareTurn s w true 1023 0 [] (placed s Outside true nothing))
   unfolding bareTurn placed isDue
   skipped-leaves = undue-leaves _ _ w refl
 
   first-leaves : Leaves (firstEnds s w)
   unfolding firstEnds esiStart
-  first-leaves = either-leaves _ _ _ (either-leaves _ _ _ esi-on-leaves (esi-leaves _)) (shut-leaves false 1010 10)
+  first-leaves = either-leaves _ _ _ (either-leaves _ _ _ esi-on-leaves (esi-leaves _)) (shut-leaves false 1010 10 _)
 
   outside-leaves : Leaves (outsideEnds s w)
   unfolding outsideEnds
   outside-leaves =
       either-leaves _ _ _ (unsaid-leaves _ w)
-      (either-leaves _ _ _ (shut-leaves false 1011 10) (either-leaves _ _ _ (unsaid-leaves _ w) skipped-leaves))
+      (either-leaves _ _ _ (shut-leaves false 1011 10 _) (either-leaves _ _ _ (unsaid-leaves _ w) skipped-leaves))
 
   frame-leaves : Leaves (frameEnds s w)
   unfolding frameEnds varStart
   frame-leaves =
       either-leaves _ _ _ (either-leaves _ _ _ var-on-leaves (var-leaves _))
-      (either-leaves _ _ _ second-leaves (either-leaves _ _ _ (shut-leaves true 1024 0) (unsaid-leaves _ w)))
+      (either-leaves _ _ _ second-leaves (either-leaves _ _ _ (shut-leaves true 1024 0 _) (unsaid-leaves _ w)))
 
   collecting-leaves : (kind : Kind) → Leaves (collectingEnds kind s w)
   unfolding collectingEnds
@@ -168,7 +168,7 @@ pub record Next (u : Session) (v : List ℕ) (x : Turn) : Type 0 where
 
 -- both ends give the same bare reply
 abbrev EndsBare : ℕ → Session → List ℕ → Type 0
-EndsBare n s v = fileEnded s v ≡ bareTurn s v true n 0 (shut s)
+EndsBare n s v = fileEnded s v ≡ bareTurn s v true n 0 [] (shut s)
 
 data-bare : (s : Session) (v : List ℕ) → s .place ≡ InData → EndsBare 1024 s v
 unfolding fileEnded finishedIn
@@ -185,7 +185,7 @@ next-silent n u t v e a b =
       unsaid = refl;
       same-reply =
           ap (λ (x : Turn). x .out .reply) a
-          ∙ ap (λ (o : Opening). record { given = true; answer = bareAnswer (tableOf v) o true n 0 }) e
+          ∙ ap (λ (o : Opening). record { given = true; answer = bareAnswer (tableOf v) o true n 0 [] }) e
           ∙ sym (ap (λ (x : Turn). x .out .reply) b);
       same-table = ap (λ (x : Turn). x .table) a ∙ sym (ap (λ (x : Turn). x .table) b);
     }

@@ -17,7 +17,7 @@ use Rattle.ground.proofs.Parts.{drop-split, part-take, take-zeros}
 use Rattle.text.specs.Characters.{blank, digit, allBlank}
 use Rattle.text.specs.Numbers.{decimal}
 use Rattle.text.specs.Letters.{letters}
-use Rattle.message.specs.Layout.{layoutLength, layout, total}
+use Rattle.message.specs.Layout.{field, layoutLength, layout, total, offsetIn, widthIn, fieldText}
 use Rattle.message.specs.declared.Extent.{Extent}
 use Rattle.message.specs.declared.Extent.the-variants.{Whole, TooShort, LengthNotDigits, OtherLength}
 use Rattle.message.specs.declared.Kind.{Kind}
@@ -110,6 +110,10 @@ layout-within Var = omega arith
 pub begins-kept : (s : String) (l : List ℕ) → begins s (take 161 l) ≡ begins s l
 unfolding begins
 begins-kept s l = ap (λ (k : List ℕ). same k (letters s)) (take-take 5 161 l (omega arith))
+
+pub tag-kept : (l : List ℕ) → fieldText (field 1) (take 161 l) ≡ fieldText (field 1) l
+unfolding fieldText offsetIn widthIn pick
+tag-kept l = part-take l 0 5 161 (omega arith)
 
 pub wants-kept : (kind : Kind) (l : List ℕ) → wantsMore kind (take 161 l) ≡ wantsMore kind l
 unfolding wantsMore

@@ -14,6 +14,7 @@ use Rattle.message.specs.declared.Extent.the-variants.{CutShort}
 use Rattle.message.specs.declared.Kind.the-variants.{Esi, Var}
 use Rattle.opening.specs.declared.Opening.{Opening}
 use Rattle.whole_file.specs.Messages.{begins}
+use Rattle.message.specs.Layout.{fieldText}
 use Rattle.whole_file.specs.WholeFile.{Opened, Situation, beforeEsi, collectingEsi, outside, collectingSuo, inFrame, collectingVar, closed}
 use Rattle.whole_file.specs.WholeFile.{Standing, Step, moved, esiSays, pteSays, firstRecord, outsideRecord, withRecord, frameRecord}
 use Rattle.whole_file.specs.WholeFile.{recordIn, suoStarts, pastIn, endIn}
@@ -37,14 +38,15 @@ module _ (o : Opening) (w₀ : List ℕ) (n : ℕ) (d : realDate (o .today .yymm
   -- ---- the file closes
 
   pte-closes : (code : ℕ) (st : Standing) (chars : List ℕ) (s : Session) (w : List ℕ) → Hears o w₀ n st chars s w
-      → Answers o w₀ n (s .line) (pteSays o st code (moved st closed)) (bareTurn s w true code 0 (shut s))
+      → Answers o w₀ n (s .line) (pteSays o st code (moved st closed)) (bareTurn s w true code 0 [] (shut s))
   pte-closes code st chars s w k =
       Messages.pte-says o w₀ n st chars s w k code _ _ (Messages.shuts o w₀ n st chars s w k) (Messages.shut-line o w₀ n st chars s w k)
 
-  esi-closes : (code field : ℕ) (st : Standing) (chars : List ℕ) (s : Session) (w : List ℕ) → Hears o w₀ n st chars s w
-      → Answers o w₀ n (s .line) (esiSays o st code field (moved st closed)) (bareTurn s w false code field (shut s))
-  esi-closes code field st chars s w k =
-      Messages.esi-says o w₀ n st chars s w k code field _ _ (Messages.shuts o w₀ n st chars s w k)
+  esi-closes : (code field : ℕ) (a b : List ℕ) (st : Standing) (chars : List ℕ) (s : Session) (w : List ℕ) → Hears o w₀ n st chars s w
+      → fieldText field a ≡ fieldText field b
+      → Answers o w₀ n (s .line) (esiSays o st code field b (moved st closed)) (bareTurn s w false code field a (shut s))
+  esi-closes code field a b st chars s w k q =
+      Messages.esi-says o w₀ n st chars s w k code field a b _ _ q (Messages.shuts o w₀ n st chars s w k)
       (Messages.shut-line o w₀ n st chars s w k)
 
   -- ---- a record that is no part of a message on its way: `chars` is what was gathered
@@ -59,7 +61,7 @@ module _ (o : Opening) (w₀ : List ℕ) (n : ℕ) (d : realDate (o .today .yymm
     first-ends =
         Messages.by-test o w₀ n (s .line) (λ (y : Turn). y) _ _ _ _ _ _ (start ">>ESI")
         (λ t. Messages.esi-starts o w₀ n st chars s w k d chars g)
-        (λ t. esi-closes 1010 10 st chars s w k)
+        (λ t. esi-closes 1010 10 _ _ st chars s w k (Gathers.tag-is (s .gathered) chars g))
 
     -- a record outside is skipped
     skipped : Hears o w₀ n (moved st (outside true)) [] (placed s Outside true nothing) w
@@ -79,7 +81,7 @@ module _ (o : Opening) (w₀ : List ℕ) (n : ℕ) (d : realDate (o .today .yymm
         (λ t. Messages.suo-starts o w₀ n st chars s w k d chars g)
         (λ t.
         Messages.by-test o w₀ n (s .line) (λ (y : Turn). y) _ _ _ _ _ _ (start ">>ESI")
-        (λ u. esi-closes 1011 10 st chars s w k)
+        (λ u. esi-closes 1011 10 _ _ st chars s w k (Gathers.tag-is (s .gathered) chars g))
         (λ u.
         Messages.by-test o w₀ n (s .line) (λ (y : Turn). y) _ _ _ _ _ _ e
         (λ v.
@@ -173,10 +175,10 @@ module _ (o : Opening) (w₀ : List ℕ) (n : ℕ) (d : realDate (o .today .yymm
     unfolding moved pastIn passedIn digested pick isEsi
     passed-at beforeEsi chars s w k =
         at-place s (λ (p : Place). passedIn p s w) _ (k .situated .0)
-        (esi-closes 1034 0 (moved st beforeEsi) chars s w k)
+        (esi-closes 1034 0 [] [] (moved st beforeEsi) chars s w k refl)
     passed-at (collectingEsi sofar) chars s w k =
         at-place s (λ (p : Place). passedIn p s w) _ (k .situated .0)
-        (esi-closes 1034 0 (moved st (collectingEsi sofar)) chars s w k)
+        (esi-closes 1034 0 [] [] (moved st (collectingEsi sofar)) chars s w k refl)
     passed-at (outside told) chars s w k =
         at-place s (λ (p : Place). passedIn p s w) _ (k .situated .0)
         (pte-closes 1034 (moved st (outside told)) chars s w k)

@@ -15,7 +15,7 @@ use Rattle.ground.specs.Lists.{all}
 use Rattle.ground.proofs.Choices.{picks, skips}
 use Rattle.ground.proofs.Lists.{all-append, all-one}
 use Rattle.text.specs.Characters.{blank, allBlank}
-use Rattle.message.specs.Layout.{layoutLength}
+use Rattle.message.specs.Layout.{field, layoutLength, fieldText}
 use Rattle.message.specs.declared.Extent.{Extent}
 use Rattle.message.specs.declared.Kind.{Kind}
 use Rattle.message.specs.declared.Collected.{Collected}
@@ -93,6 +93,10 @@ module _ (g : Gathered) (l : List ℕ) (e : g ≡ gatheredOf l) where
 
   pub begins-is : (s : String) → begins s (held g) ≡ begins s l
   begins-is s = ap (begins s) held-is ∙ Chars.begins-kept s l
+
+  -- field 1 is within what is kept
+  pub tag-is : fieldText (field 1) (held g) ≡ fieldText (field 1) l
+  tag-is = ap (fieldText (field 1)) held-is ∙ Chars.tag-kept l
 
   pub wants-is : (kind : Kind) → wantsMore kind (held g) ≡ wantsMore kind l
   wants-is kind = ap (wantsMore kind) held-is ∙ Chars.wants-kept kind l

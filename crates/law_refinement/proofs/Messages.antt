@@ -21,7 +21,9 @@ use Rattle.message.specs.declared.Collected.{Collected}
 use Rattle.verdict.specs.declared.Outcome.{Outcome}
 use Rattle.notice.specs.Codes.{codeIn, codes}
 use Rattle.reply.specs.declared.Answering.{Answering}
+use Rattle.message.specs.Layout.{fieldText}
 use Rattle.answers.specs.Answers.{bareAnswer, verdictAnswer}
+use Rattle.answers.proofs.Made.{bare-alike}
 use Rattle.opening.specs.declared.Opening.{Opening}
 use Rattle.whole_file.specs.Messages.{extentOf, isWhole, wantsMore, collectedAs, onceOf}
 use Rattle.whole_file.specs.WholeFile.{Opened, Situation, collectingEsi, collectingSuo, collectingVar, closed, Standing, Step, moved}
@@ -88,18 +90,22 @@ module _ (o : Opening) (w₀ : List ℕ) (n : ℕ) where
 
   module _ (st : Standing) (chars : List ℕ) (s : Session) (w : List ℕ) (k : Hears o w₀ n st chars s w) where
     -- a bare one
-    bare-is : (pte : Bool) (code field : ℕ) → bareAnswer (tableOf w) (s .opening) pte code field ≡ bareAnswer (st .table) o pte code field
-    bare-is pte code field = ap₂ (λ (t : Table) (p : Opening). bareAnswer t p pte code field) (k .table .says) (k .opening)
+    bare-is : (pte : Bool) (code field : ℕ) (a b : List ℕ) → fieldText field a ≡ fieldText field b
+        → bareAnswer (tableOf w) (s .opening) pte code field a ≡ bareAnswer (st .table) o pte code field b
+    bare-is pte code field a b q =
+        ap₂ (λ (t : Table) (p : Opening). bareAnswer t p pte code field a) (k .table .says) (k .opening)
+        ∙ bare-alike (st .table) o pte code field a b q
 
-    pub esi-says : (code field : ℕ) (x : Standing) (z : Session) → Hears o w₀ n x [] z w → z .line ≡ s .line
-        → Answers o w₀ n (s .line) (esiSays o st code field x) (bareTurn s w false code field z)
+    pub esi-says : (code field : ℕ) (a b : List ℕ) (x : Standing) (z : Session) → fieldText field a ≡ fieldText field b
+        → Hears o w₀ n x [] z w → z .line ≡ s .line
+        → Answers o w₀ n (s .line) (esiSays o st code field b x) (bareTurn s w false code field a z)
     unfolding esiSays bareTurn
-    esi-says code field x z h e = told _ _ x z w (s .line) (bare-is false code field) h e
+    esi-says code field a b x z q h e = told _ _ x z w (s .line) (bare-is false code field a b q) h e
 
     pub pte-says : (code : ℕ) (x : Standing) (z : Session) → Hears o w₀ n x [] z w → z .line ≡ s .line
-        → Answers o w₀ n (s .line) (pteSays o st code x) (bareTurn s w true code 0 z)
+        → Answers o w₀ n (s .line) (pteSays o st code x) (bareTurn s w true code 0 [] z)
     unfolding pteSays bareTurn
-    pte-says code x z h e = told _ _ x z w (s .line) (bare-is true code 0) h e
+    pte-says code x z h e = told _ _ x z w (s .line) (bare-is true code 0 [] [] refl) h e
 
     -- what only a verdict changes is carried on
     pub carries : (x : Situation) (z : Session) → z .opening ≡ s .opening → z .made ≡ s .made → z .sender ≡ s .sender

@@ -4,3 +4,4 @@ pub mod Places
 pub mod Tests
 pub mod Stamps
 pub mod Laws
+pub mod Kept

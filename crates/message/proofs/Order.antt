@@ -1,12 +1,12 @@
 -- The first failing check of a list: of lists one after the other, the first that has one decides.
 -- Assumes nothing.
-use mathlib.Core.Path.{_≡_, refl, ap, _∙_}
+use mathlib.Core.Path.{_≡_, refl, sym, ap, ap₂, _∙_}
 use mathlib.Core.Bool.{Bool, true, false}
 use mathlib.Core.List.{List, [], _∷_, _++_}
 use Prim.Native.Nat.{ℕ}
 use native.Mathlib.Omega.{arith}
-use Rattle.ground.specs.Choice.{pick}
-use Rattle.ground.proofs.Choices.{picks, skips}
+use Rattle.ground.specs.Choice.{both, pick}
+use Rattle.ground.proofs.Choices.{left, right, picks, skips}
 use Rattle.ground.specs.First.{firstThat}
 use Rattle.message.specs.Order.{Check, firstFailing}
 use Rattle.message.specs.declared.About.{About}
@@ -39,6 +39,26 @@ first-found (c ∷ a) b code field about e = by (c .failed) e (first-found a b c
         → (firstFailing a ≡ Found code field about → firstFailing (a ++ b) ≡ Found code field about)
         → pick t (faultOf c) (firstFailing (a ++ b)) ≡ Found code field about
     by true p r = p
+    by false p r = r p
+
+-- ---- what holds of code and field of every check
+
+unfoldable pub eachCheck : (ℕ → ℕ → Bool) → List Check → Bool
+eachCheck f [] = true
+eachCheck f (c ∷ cs) = both (f (c .code) (c .field)) (eachCheck f cs)
+
+pub first-each : (f : ℕ → ℕ → Bool) (cs : List Check) (code field : ℕ) (about : About) → eachCheck f cs ≡ true
+    → firstFailing cs ≡ Found code field about → f code field ≡ true
+unfolding eachCheck firstFailing firstThat pick
+first-each f [] code field about a e = absurd (let z : _≡_ {A = ℕ} 0 1 = cc in omega arith)
+first-each f (c ∷ cs) code field about a e = by (c .failed) e (first-each f cs code field about (right _ _ a))
+  where
+    by : (t : Bool) → pick t (faultOf c) (firstFailing cs) ≡ Found code field about
+        → (firstFailing cs ≡ Found code field about → f code field ≡ true) → f code field ≡ true
+    by true p r =
+        let q : c .code ≡ code = cc in
+        let s : c .field ≡ field = cc in
+        ap₂ f (sym q) (sym s) ∙ left _ _ a
     by false p r = r p
 
 -- r is the first fault of two lists, one after the other, wherever x and y are those of each

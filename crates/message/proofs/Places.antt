@@ -1,18 +1,20 @@
 -- Where the fields stand: each begins where those before it end, which is computed for all of them, and what is read there.
 -- Assumes nothing.
-use mathlib.Core.Path.{_≡_, refl, ap, _∙_}
+use mathlib.Core.Path.{_≡_, refl, sym, ap, _∙_}
+use mathlib.Core.Bool.{false}
 use mathlib.Core.List.{List, [], _∷_, _++_, map, append-nil}
 use Prim.Native.Nat.{ℕ, zero, suc, _+_, _-_, _^_, _≤_, _<_, zero-le}
-use native.Mathlib.Nat.{not-suc-le-zero, le-of-suc-le-suc, le-trans, lt-of-lt-of-le, pow-le-pow-right}
+use native.Mathlib.Nat.{zero-add, not-suc-le-zero, le-of-suc-le-suc, le-trans, lt-of-lt-of-le, pow-le-pow-right}
 use native.Mathlib.Numerals.{add-one}
 use native.Mathlib.Omega.{arith}
 use borrow.Author.Tests.{eqb-true}
 use lib.Dec.{eqb, lit<, lit≤}
-use lib.ListN.{length, getD, take, drop-of-length-le}
+use lib.ListN.{length, getD, take, drop, drop-of-length-le}
 use lib.Seq.{take-all, take-nil}
 use Rattle.ground.specs.Choice.{both, pick}
 use Rattle.ground.specs.Lists.{part, overlay}
 use Rattle.ground.proofs.Parts.{part-length, part-short}
+use Rattle.ground.proofs.Choices.{skips}
 use Rattle.ground.proofs.Table.{each}
 use Rattle.text.specs.Numbers.{decimal, hex}
 use Rattle.text.proofs.Laws.{decimal-lt}
@@ -56,6 +58,37 @@ pub placed : (i : ℕ) (m : List ℕ) → i < 22
     → part (total (take i fields)) (total (take (i + 1) fields) - total (take i fields)) m ≡ fieldText (numberAt i) m
 unfolding fieldText
 placed i m h = rw (add-one i, begins i h, wide i h)
+
+-- a field that isn't the one at a place stands among those after it
+passed : (l : List Field) (d : Field) (i n : ℕ) → i < length l → eqb (getD l i d .number) n ≡ false
+    → (total (take i l) + offsetIn n (drop i l) ≡ total (take (suc i) l) + offsetIn n (drop (suc i) l))
+    × (widthIn n (drop i l) ≡ widthIn n (drop (suc i) l))
+unfolding total offsetIn widthIn
+passed [] d i n h e = absurd (not-suc-le-zero h)
+passed (f ∷ l) d zero n h e = (rw (skips _ 0 (f .length + offsetIn n l) e) (omega arith), skips _ _ _ e)
+passed (f ∷ l) d (suc i) n h e =
+    let r = passed l d i n (le-of-suc-le-suc h) e in
+    (omega (arith, r .0), r .1)
+
+-- where the first i fields are not the one
+abbrev pub Past : (n i : ℕ) → Type 0
+Past n i = (offsetIn n fields ≡ total (take i fields) + offsetIn n (drop i fields)) × (widthIn n fields ≡ widthIn n (drop i fields))
+
+pub past-start : (n : ℕ) → Past n 0
+unfolding total
+past-start n = (sym (zero-add _), refl)
+
+pub past-more : (n i : ℕ) → i < 22 → eqb (numberAt i) n ≡ false → Past n i → Past n (i + 1)
+past-more n i h e p =
+    let q = passed fields (laid noField "" 0) i n (omega arith) e in
+    rw (add-one i) (p .0 ∙ q .0, p .1 ∙ q .1)
+
+-- a message of a customer has no other field
+pub none-past : (n : ℕ) (m : List ℕ) → length m ≤ 161 → Past n 22 → fieldText n m ≡ []
+unfolding fieldText part total
+none-past n m h p =
+    let e : drop (offsetIn n fields) m ≡ [] = drop-of-length-le m {i = offsetIn n fields} (omega (arith, p .0)) in
+    ap (take (widthIn n fields)) e ∙ take-nil (widthIn n fields)
 
 -- field 2, which states the length
 pub length-field : (m : List ℕ) → fieldText (field 2) m ≡ part 5 3 m

@@ -4,3 +4,4 @@ pub mod Order
 pub mod Rules
 pub mod Passing
 pub mod Fields
+pub mod Contents

@@ -7,6 +7,7 @@ ghost use Rattle.ground.specs.Lists.{all, member, part};
 ghost use Rattle.text.specs.Characters.{digit, hexDigit};
 ghost use Rattle.text.specs.Letters.{letters};
 ghost use Rattle.message.specs.Layout.{laid, noField, fields, total, widthIn, fieldText, layout, layoutLength};
+ghost use Rattle.message.specs.Contents.{contentsAs, atFault};
 ghost use Rattle.message.specs.Order.{firstFailing};
 ghost use Rattle.message.specs.declared.Extent.the-variants.{Whole};
 ghost use Rattle.message.specs.Rules.{hexFields, only, oneOf, methods, commonRules, ownRules, formOf, formatHolds, obeys, valueHolds};
@@ -42,6 +43,12 @@ pub struct Collected {
     pub extent: Extent,
     pub blank: bool,
     pub text: [u8; 161],
+}
+
+// The characters of a field as received: how many there are, and zeros after them.
+pub struct Contents {
+    pub count: usize,
+    pub text: [u8; 17],
 }
 
 // No fault, or the code, the field (its number as specs/Layout.antt writes it, 0 where none is named) and the message that it is of.
@@ -361,6 +368,54 @@ pub fn fault_of(k: Kind, about: About, extent: Extent, blank_over: bool, m: &[u8
             field: 0,
             about,
         },
+    }
+}
+
+// ---- the contents of a field
+
+pub fn no_contents() -> Contents
+    ensures { λ r. ⌜ r ≡ contentsAs [] ⌝ }
+{
+    Contents {
+        count: 0,
+        text: [0; 17],
+    }
+}
+
+fn contents_of(text: &[u8]) -> Contents
+    ensures { λ r. ⌜ r ≡ contentsAs (now (text .entry)) ⌝ }
+{
+    let mut out = [0u8; 17];
+    text::copy(&mut out, text);
+    Contents {
+        count: least(17, text.len()),
+        text: out,
+    }
+}
+
+// The contents of a field in the first `count` characters of a message; of a field that no message of a customer has, none.
+pub fn field_contents(number: u32, m: [u8; 161], count: usize) -> Contents
+    ensures { λ r. ⌜ r ≡ contentsAs (fieldText number (take count m)) ⌝ }
+{
+    let n = least(count, 161);
+    let mut i = 0;
+    while i < 22 {
+        let next = i + 1;
+        if number_of(i) == number {
+            return contents_of(span(i, next, &m[..n]));
+        }
+        i = next;
+    }
+    no_contents()
+}
+
+// The message at fault.
+pub fn at_fault(about: About, answered: [u8; 161], closing: [u8; 161]) -> [u8; 161]
+    ensures { λ r. ⌜ r ≡ atFault about answered closing ⌝ }
+{
+    match about {
+        About::Answered => answered,
+        About::Closing => closing,
     }
 }
 

@@ -3,32 +3,38 @@
 use Prim.Native.Nat.{ℕ}
 use Prim.Native.String.{String}
 use mathlib.Core.Bool.{Bool, true, false}
-use mathlib.Core.List.{List, [], _∷_, _++_}
+use mathlib.Core.List.{List, [], _∷_, _++_, map}
 use lib.Dec.{eqb}
-use Rattle.ground.specs.Choice.{pick}
+use Rattle.ground.specs.Choice.{pick, between}
 use Rattle.text.specs.Letters.{letters}
 use Rattle.message.specs.Layout.{Field, field, laid, fields, nameIn}
 
--- a code: its text before and after the field's name NNN (VVV is left out), whether it names a field, K or E, bare or full
+-- a code: its text before and after the field's name NNN, whether it names a field, whether the field's contents VVV follow the name, K or
+-- E, bare or full
 pub record Code : Type 0 where
   pub code : ℕ
   pub before : List ℕ
   pub names : Bool
+  pub shows : Bool
   pub after : List ℕ
   pub accepted : Bool
   pub bare : Bool
 
 -- K, with the whole reply
 abbrev pub taken : ℕ → String → Code
-taken c s = record { code = c; before = letters s; names = false; after = []; accepted = true; bare = false }
+taken c s = record { code = c; before = letters s; names = false; shows = false; after = []; accepted = true; bare = false }
 
 -- E, with the whole reply
 abbrev pub refused : ℕ → String → Code
-refused c s = record { code = c; before = letters s; names = false; after = []; accepted = false; bare = false }
+refused c s = record { code = c; before = letters s; names = false; shows = false; after = []; accepted = false; bare = false }
 
 -- E, in the bare form
 abbrev pub barely : ℕ → String → Code
-barely c s = record { code = c; before = letters s; names = false; after = []; accepted = false; bare = true }
+barely c s = record { code = c; before = letters s; names = false; shows = false; after = []; accepted = false; bare = true }
+
+-- E, in the bare form, with the field's name and its contents
+abbrev pub faulty : ℕ → String → Code
+faulty c s = record { code = c; before = letters s; names = true; shows = true; after = []; accepted = false; bare = true }
 
 abbrev pub codes : List Code
 codes =
@@ -37,8 +43,8 @@ codes =
     taken 1003 "HYVÄKSYTTY, AVAINVAIHTO HYVÄKSYTTY" ∷
     taken 1004 "HYVÄKSYTTY, AVAINVAIHTO HYLÄTTY" ∷
     taken 1005 "HYVÄKSYTTY, AVAINVAIHTO LIIAN USEIN" ∷
-    record { code = 1010; before = letters "MUOTOVIRHE KENTÄSSÄ "; names = true; after = []; accepted = false; bare = true } ∷
-    record { code = 1011; before = letters "ARVOVIRHE KENTÄSSÄ "; names = true; after = []; accepted = false; bare = true } ∷
+    faulty 1010 "MUOTOVIRHE KENTÄSSÄ " ∷
+    faulty 1011 "ARVOVIRHE KENTÄSSÄ " ∷
     barely 1012 "VERSIO ON LIIAN VANHA" ∷
     refused 1013 "SIIRTOAVAIN EI OLE VOIMASSA" ∷
     refused 1014 "KÄYTTÖAVAIN EI OLE VOIMASSA" ∷
@@ -56,6 +62,7 @@ codes =
       code = 1026;
       before = letters "KENTTÄ ";
       names = true;
+      shows = false;
       after = letters ": SUO-SANOMA <> VAR-SANOMA";
       accepted = false;
       bare = false;
@@ -70,7 +77,7 @@ codes =
 
 -- a number that is no code has no text, is refused and bare
 abbrev pub noCode : Code
-noCode = record { code = 0; before = []; names = false; after = []; accepted = false; bare = true }
+noCode = record { code = 0; before = []; names = false; shows = false; after = []; accepted = false; bare = true }
 
 unfoldable pub codeIn : ℕ → List Code → Code
 codeIn n [] = noCode
@@ -84,7 +91,18 @@ groups = laid (field 8) "VASTAANOTTAJA" 25 ∷ laid (field 9) "LÄHETTÄJÄ" 25 
 unfoldable pub fieldName : ℕ → List ℕ
 fieldName n = nameIn n (fields ++ groups)
 
--- the text of a code, with the field's name where it names one
-unfoldable pub textOf : (code number : ℕ) → List ℕ
-textOf code number =
-    codeIn code codes .before ++ pick (codeIn code codes .names) (fieldName number) [] ++ codeIn code codes .after
+-- bytes outside 20 to 7E are shown as `?`
+unfoldable pub shownByte : ℕ → ℕ
+shownByte b = pick (between 0x20 0x7E b) b 0x3F
+
+-- VVV: one blank, then the field as received
+unfoldable pub valueText : List ℕ → List ℕ
+valueText contents = letters " " ++ map shownByte contents
+
+-- the text of a code, with the field's name where it names one, and its contents where it shows them
+unfoldable pub textOf : (code number : ℕ) (contents : List ℕ) → List ℕ
+textOf code number contents =
+    codeIn code codes .before ++
+    pick (codeIn code codes .names) (fieldName number) [] ++
+    pick (codeIn code codes .shows) (valueText contents) [] ++
+    codeIn code codes .after

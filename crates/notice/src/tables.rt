@@ -95,12 +95,14 @@ pub const LENGTHS: [usize; 29] = [
     0,
 ];
 
-// Accepted or in error, bare or full, names a field or not.
+// Accepted or in error, bare or full, names a field or not, shows its contents or not.
 pub const SUCCESS: [u8; 29] = *b"KKKKKEEEEEEEEEEEEEEEEEEEEEKKE";
 
 pub const FORMS: [u8; 29] = *b"FFFFFBBBFFFFFFFFBBBFFFBBFBFFB";
 
 pub const NAMING: [u8; 29] = *b"-----NN-------------N--------";
+
+pub const SHOWING: [u8; 29] = *b"-----VV----------------------";
 
 // The fields by their numbers, and the groups of fields 8, 9 and 12.
 pub const FIELDS: [u32; 28] = [

@@ -32,10 +32,10 @@ module _ (w : List ℕ) {r : Stepped} {a b : Session} where
   unfolding silent
   quietly h e = (h w ∙ ap (λ (z : Session). silent z w .out) e, refl)
 
-  pub barely : (s : Session) (pte : Bool) (code field : ℕ) → r ≡ bareTurn s w pte code field a .out → a ≡ b
-      → Gives r w (bareTurn s w pte code field b)
+  pub barely : (s : Session) (pte : Bool) (code field : ℕ) (chars : List ℕ) → r ≡ bareTurn s w pte code field chars a .out → a ≡ b
+      → Gives r w (bareTurn s w pte code field chars b)
   unfolding bareTurn replies
-  barely s pte code field h e = (h ∙ ap (λ (z : Session). bareTurn s w pte code field z .out) e, refl)
+  barely s pte code field chars h e = (h ∙ ap (λ (z : Session). bareTurn s w pte code field chars z .out) e, refl)
 
 -- ---- a case of an enum
 

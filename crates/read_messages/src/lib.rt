@@ -1,13 +1,15 @@
 // Messages as their records come: what begins one, whether it is one record alone,
 // whether it wants more; and what a collected one does to a session and to the table.
 ghost use mathlib.Core.Path.{_≡_};
-ghost use mathlib.Core.List.{List};
+ghost use mathlib.Core.Bool.{false};
+ghost use mathlib.Core.List.{List, []};
 ghost use Prim.Native.Nat.{ℕ, _≤_, min};
 ghost use lib.ListN.{length, take, drop};
 ghost use Rattle.ground.specs.Lists.{same};
 ghost use Rattle.text.specs.Characters.{allBlank};
 ghost use Rattle.table.specs.Decode.{tableOf};
 ghost use Rattle.message.specs.declared.Kind.the-variants.{Esi, Suo, Var};
+ghost use Rattle.message.specs.Layout.{field, noField};
 ghost use Rattle.message.specs.Order.{firstFailing};
 ghost use Rattle.message.specs.Rules.{formOf, formChecks};
 ghost use Rattle.message.specs.declared.About.the-variants.{Answered};
@@ -159,19 +161,21 @@ pub fn quiet(s: session::Session) -> session::Stepped
     }
 }
 
-// A bare reply, ESI or PTE, and the session after it.
-pub fn bare(
+// A bare reply, ESI or PTE, that names a field in the first `count` characters of `m`, and the session after it.
+fn bare_on(
     t: &[u8],
     s: session::Session,
     pte: bool,
     code: u32,
     field: u32,
+    m: [u8; 161],
+    count: usize,
     after: session::Session,
 ) -> session::Stepped
-    ensures { λ r. ⌜ r ≡ bareTurn s (now (t .entry)) pte code field after .out ⌝ }
+    ensures { λ r. ⌜ r ≡ bareTurn s (now (t .entry)) pte code field (take count m) after .out ⌝ }
 {
     let opening = s.opening;
-    let answer = answers::bare_answer(t, opening, pte, code, field);
+    let answer = answers::bare_answer(t, opening, pte, code, field, m, count);
     session::Stepped {
         session: after,
         reply: session::Reply {
@@ -179,6 +183,34 @@ pub fn bare(
             answer,
         },
     }
+}
+
+// A bare reply that names no field.
+pub fn bare(
+    t: &[u8],
+    s: session::Session,
+    pte: bool,
+    code: u32,
+    after: session::Session,
+) -> session::Stepped
+    ensures { λ r. ⌜ r ≡ bareTurn s (now (t .entry)) pte code noField [] after .out ⌝ }
+{
+    bare_on(t, s, pte, code, 0, [0; 161], 0, after)
+}
+
+// A bare ESI on field 1 of the record that ends.
+pub fn bare_tag(
+    t: &[u8],
+    s: session::Session,
+    code: u32,
+    after: session::Session,
+) -> session::Stepped
+    ensures { λ r. ⌜ r ≡ bareTurn s (now (t .entry)) false code (field 1) (held (s .gathered)) after .out ⌝ }
+{
+    let gathered = s.gathered;
+    let text = gathered.text;
+    let count = gathered.count;
+    bare_on(t, s, false, code, 10, text, count, after)
 }
 
 fn place_after_esi(accepted: bool) -> session::Place

@@ -85,7 +85,7 @@ fn first_ends(s: session::Session, t: &mut [u8]) -> session::Stepped
     if read_messages::begins_esi(gathered) {
         return esi_start(s, t);
     }
-    read_messages::bare(t, s, false, 1010, 10, session::closed_at(s))
+    read_messages::bare_tag(t, s, 1010, session::closed_at(s))
 }
 
 // A record outside a frame.
@@ -98,13 +98,13 @@ fn outside_ends(s: session::Session, t: &[u8]) -> session::Stepped
         return read_messages::quiet(suo_start(s, t));
     }
     if read_messages::begins_esi(gathered) {
-        return read_messages::bare(t, s, false, 1011, 10, session::closed_at(s));
+        return read_messages::bare_tag(t, s, 1011, session::closed_at(s));
     }
     let after = session::at_place(s, session::Place::Outside, true, session::no_characters());
     if s.told {
         return read_messages::quiet(after);
     }
-    read_messages::bare(t, s, true, 1023, 0, after)
+    read_messages::bare(t, s, true, 1023, after)
 }
 
 // A record in a frame: the VAR, a second SUO, a later ESI, or data.
@@ -117,10 +117,10 @@ fn frame_ends(s: session::Session, t: &mut [u8]) -> session::Stepped
         return var_start(s, t);
     }
     if read_messages::begins_suo(gathered) {
-        return read_messages::bare(t, s, true, 1024, 0, suo_start(s, t));
+        return read_messages::bare(t, s, true, 1024, suo_start(s, t));
     }
     if read_messages::begins_esi(gathered) {
-        return read_messages::bare(t, s, true, 1024, 0, session::closed_at(s));
+        return read_messages::bare(t, s, true, 1024, session::closed_at(s));
     }
     read_messages::quiet(read_messages::data_taken(s))
 }
@@ -158,20 +158,13 @@ pub fn size_passed(s: session::Session, t: &[u8]) -> session::Stepped
 {
     let place = s.place;
     match place {
-        session::Place::BeforeEsi => read_messages::bare(
-            t,
-            s,
-            false,
-            1034,
-            0,
-            session::closed_at(s),
-        ),
-        session::Place::Outside => read_messages::bare(t, s, true, 1034, 0, session::closed_at(s)),
+        session::Place::BeforeEsi => read_messages::bare(t, s, false, 1034, session::closed_at(s)),
+        session::Place::Outside => read_messages::bare(t, s, true, 1034, session::closed_at(s)),
         session::Place::Collecting(k) => {
             let pte = !read_messages::is_esi(k);
-            read_messages::bare(t, s, pte, 1034, 0, session::closed_at(s))
+            read_messages::bare(t, s, pte, 1034, session::closed_at(s))
         }
-        session::Place::InData => read_messages::bare(t, s, true, 1034, 0, session::closed_at(s)),
+        session::Place::InData => read_messages::bare(t, s, true, 1034, session::closed_at(s)),
         session::Place::Closed => read_messages::quiet(s),
     }
 }
@@ -183,7 +176,7 @@ fn cut_short(k: message::Kind, s: session::Session, t: &mut [u8]) -> session::St
 {
     match k {
         message::Kind::Esi => read_messages::esi_done(s, t, message::Extent::CutShort),
-        message::Kind::Suo => read_messages::bare(t, s, true, 1032, 0, session::closed_at(s)),
+        message::Kind::Suo => read_messages::bare(t, s, true, 1032, session::closed_at(s)),
         message::Kind::Var => read_messages::var_done(s, t, message::Extent::CutShort),
     }
 }
@@ -198,7 +191,7 @@ pub fn file_ended(s: session::Session, t: &mut [u8]) -> session::Stepped
         session::Place::BeforeEsi => read_messages::quiet(s),
         session::Place::Outside => read_messages::quiet(s),
         session::Place::Collecting(k) => cut_short(k, s, t),
-        session::Place::InData => read_messages::bare(t, s, true, 1024, 0, session::closed_at(s)),
+        session::Place::InData => read_messages::bare(t, s, true, 1024, session::closed_at(s)),
         session::Place::Closed => read_messages::quiet(s),
     }
 }

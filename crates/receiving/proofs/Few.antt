@@ -56,9 +56,9 @@ unfolding replies
 one-replies a s = omega arith
 
 module _ (o : Opening) (s : Standing) where
-  one-esi : (code field : ℕ) (after : Standing) → One (esiSays o s code field after)
+  one-esi : (code field : ℕ) (chars : List ℕ) (after : Standing) → One (esiSays o s code field chars after)
   unfolding esiSays
-  one-esi code field after = one-replies _ after
+  one-esi code field chars after = one-replies _ after
 
   one-pte : (code : ℕ) (after : Standing) → One (pteSays o s code after)
   unfolding pteSays
@@ -78,13 +78,13 @@ module _ (o : Opening) (s : Standing) where
 
   one-first : (chars : List ℕ) → One (firstRecord o s chars)
   unfolding firstRecord esiStarts esiEnds
-  one-first chars = one-of _ _ _ (one-of _ _ _ (one-esi-on chars) (one-replies _ _)) (one-esi 1010 10 _)
+  one-first chars = one-of _ _ _ (one-of _ _ _ (one-esi-on chars) (one-replies _ _)) (one-esi 1010 10 _ _)
 
   one-outside : (told : Bool) (chars : List ℕ) → One (outsideRecord o s told chars)
   unfolding outsideRecord suoStarts suoEnds
   one-outside told chars =
       one-of _ _ _ (one-of _ _ _ (one-suo-on chars) (one-silent _))
-      (one-of _ _ _ (one-esi 1011 10 _) (one-of _ _ _ (one-silent s) (one-pte 1023 _)))
+      (one-of _ _ _ (one-esi 1011 10 _ _) (one-of _ _ _ (one-silent s) (one-pte 1023 _)))
 
   one-frame : (f : Opened) (chars : List ℕ) → One (frameRecord o s f chars)
   unfolding frameRecord varStarts varEnds
@@ -104,8 +104,8 @@ module _ (o : Opening) (s : Standing) where
 
   one-past : (x : Situation) → One (pastIn o s x)
   unfolding pastIn
-  one-past beforeEsi = one-esi 1034 0 _
-  one-past (collectingEsi sofar) = one-esi 1034 0 _
+  one-past beforeEsi = one-esi 1034 0 _ _
+  one-past (collectingEsi sofar) = one-esi 1034 0 _ _
   one-past (outside told) = one-pte 1034 _
   one-past (collectingSuo sofar) = one-pte 1034 _
   one-past (inFrame f) = one-pte 1034 _

@@ -16,14 +16,13 @@ use Rattle.text.specs.Numbers.{decimalDigits}
 use Rattle.text.specs.Letters.{letters}
 use Rattle.text.proofs.Laws.{decimalDigits-length, padded-length}
 use Rattle.message.specs.Layout.{fieldText, offsetIn, widthIn}
+use Rattle.message.specs.Contents.{heldIn}
 use Rattle.message.specs.Fields.{receiverOf, senderOf, stampTextOf}
 use Rattle.notice.specs.Codes.{codes, codeIn, textOf}
 use Rattle.notice.proofs.Padding.{after}
 use Rattle.reply.specs.Reply.{clockText, noticeOf, Said, joined, openingFields, fullFields, bareFields}
 use Rattle.reply.specs.Putting.{marks}
 use Rattle.reply.specs.declared.Answering.{Answering}
-
--- ---- lists
 
 -- ---- fields joined
 
@@ -160,11 +159,10 @@ notice-length a = padded-length 60 _
 
 -- the clock with a blank, and the text filled with blanks
 pub notice-filled : (a : Answering) (clock text : List ℕ) → clock ≡ clockText (a .time) ++ letters " "
-    → text ≡ padded 51 (textOf (a .code) (a .field)) → clock ++ text ≡ noticeOf a
+    → text ≡ padded 51 (textOf (a .code) (a .field) (heldIn (a .contents))) → clock ++ text ≡ noticeOf a
 unfolding noticeOf letters
 notice-filled a clock text e f =
     let h : length clock ≡ 9 = ap length e ∙ length-append (clockText (a .time)) (letters " ")
     ∙ ap (λ (x : ℕ). x + 1) (clock-length (a .time)) in
-    ap (λ (x : List ℕ). clock ++ x) f
-    ∙ sym (after 9 51 clock (textOf (a .code) (a .field)) h)
-    ∙ ap (λ (x : List ℕ). padded 60 (x ++ textOf (a .code) (a .field))) e
+    let t : List ℕ = textOf (a .code) (a .field) (heldIn (a .contents)) in
+    ap (λ (x : List ℕ). clock ++ x) f ∙ sym (after 9 51 clock t h) ∙ ap (λ (x : List ℕ). padded 60 (x ++ t)) e

@@ -14,6 +14,7 @@ use Rattle.digest.specs.Mac.{checksumOf}
 use Rattle.changeover.specs.declared.Key.{Key}
 use Rattle.changeover.specs.declared.Key.the-variants.{Missing, Is}
 use Rattle.message.specs.Layout.{field, subfield, fieldText}
+use Rattle.message.specs.Contents.{heldIn}
 use Rattle.notice.specs.Codes.{codeIn, codes, textOf}
 use Rattle.reply.specs.declared.Answering.{Answering}
 
@@ -24,9 +25,9 @@ unfoldable pub clockText : ℕ → List ℕ
 clockText t =
     decimalDigits 2 (t / 10000) ++ letters ":" ++ decimalDigits 2 (t / 100 % 100) ++ letters ":" ++ decimalDigits 2 (t % 100)
 
--- ILMOITUS: the time, a blank, the text
+-- ILMOITUS: the time, a blank, the text, cut where the 60 characters end
 unfoldable pub noticeOf : Answering → List ℕ
-noticeOf a = padded 60 (clockText (a .time) ++ letters " " ++ textOf (a .code) (a .field))
+noticeOf a = padded 60 (clockText (a .time) ++ letters " " ++ textOf (a .code) (a .field) (heldIn (a .contents)))
 
 -- sixteen hex digits of a key's number, or blanks
 unfoldable pub hexOr : Key → List ℕ

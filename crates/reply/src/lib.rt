@@ -13,13 +13,14 @@ ghost use Rattle.reply.specs.Reply.{clockText, noticeOf, hexOr, sealed, 
 ghost use Rattle.reply.specs.Reply.{bodyFields, head, checksumKey, enclosedKey, replyOf, replyLength, replied, writtenLength};
 ghost use Rattle.reply.specs.Putting.{Put, marks};
 
-// What a reply answers: ESI or PTE, bare or full, code and field, the opening's time, the bank and its software, the message (a frame's
+// What a reply answers: ESI or PTE, bare or full, code, field and its contents, the opening's time, the bank and its software, the message (a frame's
 // SUO) and the one that closed it (the VAR), the working key of the message's generation, its transport key, and the key to enclose.
 pub struct Answering {
     pub pte: bool,
     pub bare: bool,
     pub code: u32,
     pub field: u32,
+    pub contents: message::Contents,
     pub time: u32,
     pub bank: [u8; 25],
     pub software: [u8; 16],
@@ -235,7 +236,8 @@ fn put_notice(out: &mut [u8], at: usize, a: Answering) -> usize
     ensures { λ r. ⌜ Put at (noticeOf a) (now (out .entry)) (now (out .exit)) r ⌝ }
 {
     let time = clock(a.time);
-    let text = notice::text(a.code, a.field);
+    let contents = a.contents;
+    let text = notice::text(a.code, a.field, contents);
     let n = put(out, at, &time);
     put(out, n, &text)
 }

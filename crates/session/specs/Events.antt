@@ -12,6 +12,7 @@ use Rattle.digest.specs.Running.{begun, alike, tookBytes, ended, answered}
 use Rattle.changeover.specs.declared.Key.the-variants.{Missing}
 use Rattle.table.specs.Decode.{tableOf}
 use Rattle.message.specs.Layout.{field, noField}
+use Rattle.message.specs.Contents.{contentsAs}
 use Rattle.message.specs.Fields.{senderOf, methodOf}
 use Rattle.message.specs.declared.Extent.{Extent}
 use Rattle.message.specs.declared.Extent.the-variants.{Whole, CutShort}
@@ -111,6 +112,7 @@ noReply =
             bare = false;
             code = 0;
             field = noField;
+            contents = contentsAs [];
             time = 0;
             bank = replicate 25 0;
             software = replicate 16 0;
@@ -146,9 +148,9 @@ judged s p made sender = onward s (s .ended) false made sender (s .line) p nothi
 unfoldable pub shut : Session → Session
 shut s = placed s Closed (s .told) nothing
 
--- a bare reply, ESI or PTE
-unfoldable pub bareTurn : Session → List ℕ → Bool → ℕ → ℕ → Session → Turn
-bareTurn s b pte code field after = replies (bareAnswer (tableOf b) (s .opening) pte code field) after b
+-- a bare reply, ESI or PTE, that may name a field of some characters
+unfoldable pub bareTurn : Session → List ℕ → (pte : Bool) (code field : ℕ) (chars : List ℕ) → Session → Turn
+bareTurn s b pte code field chars after = replies (bareAnswer (tableOf b) (s .opening) pte code field chars) after b
 
 -- ---- a message's end
 
@@ -234,13 +236,13 @@ varStart s b =
 -- ---- a record's end
 
 unfoldable pub firstEnds : Session → List ℕ → Turn
-firstEnds s b = pick (begins ">>ESI" (held (s .gathered))) (esiStart s b) (bareTurn s b false 1010 (field 1) (shut s))
+firstEnds s b = pick (begins ">>ESI" (held (s .gathered))) (esiStart s b) (bareTurn s b false 1010 (field 1) (held (s .gathered)) (shut s))
 
 unfoldable pub outsideEnds : Session → List ℕ → Turn
 outsideEnds s b =
     pick (begins ">>SUO" (held (s .gathered))) (silent (suoStart s b) b)
-    (pick (begins ">>ESI" (held (s .gathered))) (bareTurn s b false 1011 (field 1) (shut s))
-    (pick (s .told) (silent (placed s Outside true nothing) b) (bareTurn s b true 1023 noField (placed s Outside true nothing))))
+    (pick (begins ">>ESI" (held (s .gathered))) (bareTurn s b false 1011 (field 1) (held (s .gathered)) (shut s))
+    (pick (s .told) (silent (placed s Outside true nothing) b) (bareTurn s b true 1023 noField [] (placed s Outside true nothing))))
 
 -- the end of a data record
 unfoldable pub dataTaken : Session → Session
@@ -255,8 +257,8 @@ dataTaken s =
 unfoldable pub frameEnds : Session → List ℕ → Turn
 frameEnds s b =
     pick (begins ">>VAR" (held (s .gathered))) (varStart s b)
-    (pick (begins ">>SUO" (held (s .gathered))) (bareTurn s b true 1024 noField (suoStart s b))
-    (pick (begins ">>ESI" (held (s .gathered))) (bareTurn s b true 1024 noField (shut s)) (silent (dataTaken s) b)))
+    (pick (begins ">>SUO" (held (s .gathered))) (bareTurn s b true 1024 noField [] (suoStart s b))
+    (pick (begins ">>ESI" (held (s .gathered))) (bareTurn s b true 1024 noField [] (shut s)) (silent (dataTaken s) b)))
 
 unfoldable pub collectingEnds : Kind → Session → List ℕ → Turn
 collectingEnds Esi s b = esiOn s b
@@ -282,10 +284,10 @@ isEsi Suo = false
 isEsi Var = false
 
 unfoldable pub passedIn : Place → Session → List ℕ → Turn
-passedIn BeforeEsi s b = bareTurn s b false 1034 noField (shut s)
-passedIn Outside s b = bareTurn s b true 1034 noField (shut s)
-passedIn (Collecting kind) s b = bareTurn s b (pick (isEsi kind) false true) 1034 noField (shut s)
-passedIn InData s b = bareTurn s b true 1034 noField (shut s)
+passedIn BeforeEsi s b = bareTurn s b false 1034 noField [] (shut s)
+passedIn Outside s b = bareTurn s b true 1034 noField [] (shut s)
+passedIn (Collecting kind) s b = bareTurn s b (pick (isEsi kind) false true) 1034 noField [] (shut s)
+passedIn InData s b = bareTurn s b true 1034 noField [] (shut s)
 passedIn Closed s b = silent s b
 
 unfoldable pub passed : Session → List ℕ → Turn
@@ -295,14 +297,14 @@ passed s b = passedIn (s .place) s b
 
 unfoldable pub cutShort : Kind → Session → List ℕ → Turn
 cutShort Esi s b = esiDone s b (collectedBy Esi CutShort (s .gathered))
-cutShort Suo s b = bareTurn s b true 1032 noField (shut s)
+cutShort Suo s b = bareTurn s b true 1032 noField [] (shut s)
 cutShort Var s b = varDone s b (collectedBy Var CutShort (s .gathered))
 
 unfoldable pub finishedIn : Place → Session → List ℕ → Turn
 finishedIn BeforeEsi s b = silent s b
 finishedIn Outside s b = silent s b
 finishedIn (Collecting kind) s b = cutShort kind s b
-finishedIn InData s b = bareTurn s b true 1024 noField (shut s)
+finishedIn InData s b = bareTurn s b true 1024 noField [] (shut s)
 finishedIn Closed s b = silent s b
 
 unfoldable pub fileEnded : Session → List ℕ → Turn

@@ -174,6 +174,7 @@ pub fn is_read_refused(s: Session, day: u32) -> bool
 pub fn no_reply() -> Reply
     ensures { λ r. ⌜ r ≡ noReply ⌝ }
 {
+    let contents = message::no_contents();
     Reply {
         given: false,
         answer: reply::Answering {
@@ -181,6 +182,7 @@ pub fn no_reply() -> Reply
             bare: false,
             code: 0,
             field: 0,
+            contents,
             time: 0,
             bank: [0; 25],
             software: [0; 16],

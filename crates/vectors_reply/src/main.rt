@@ -32,15 +32,19 @@ fn answering(pte: bool, bare: bool, code: u32, field: u32, keys: [Key; 3]) -> An
     let working = keys[0];
     let transport = keys[1];
     let enclosed = keys[2];
+    let message =
+        *b">>SUO128120 0000SOFTWARE 1      SKH003701234567     BANKQUALCUSTOMER-1       BRANCH 112930415101530002S         0123456789ABCDEF                                 ";
+    let contents = message::field_contents(field, message, 161);
     Answering {
         pte,
         bare,
         code,
         field,
+        contents,
         time: 91500,
         bank: *b"003701234567             ",
         software: *b"FRONT 4         ",
-        message: *b">>SUO128120 0000SOFTWARE 1      SKH003701234567     BANKQUALCUSTOMER-1       BRANCH 112930415101530002S         0123456789ABCDEF                                 ",
+        message,
         closing: *b">>VAR161120 0000SOFTWARE 1      SMH003701234567     BANKQUALCUSTOMER-1       BRANCH 112930415101530003A         0123456789ABCDEFFEDCBA987654321000112233445566771",
         working,
         transport,
@@ -174,6 +178,7 @@ fn show_printed(name: &[u8], message: &[u8], printed: &[u8]) {
 // The reply of appendix 3 as `write` composes it.
 fn composed(pte: bool, message: [u8; 161], closing: [u8; 161]) -> [u8; 320] {
     let mut room = [b'.'; 320];
+    let contents = message::no_contents();
     reply::write(
         &mut room,
         Answering {
@@ -181,6 +186,7 @@ fn composed(pte: bool, message: [u8; 161], closing: [u8; 161]) -> [u8; 320] {
             bare: false,
             code: 1002,
             field: 0,
+            contents,
             time: 73215,
             bank: *b"003701234567             ",
             software: *b"PANKKILINJA 1.20",

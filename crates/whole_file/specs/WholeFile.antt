@@ -68,12 +68,12 @@ silent s = record { says = []; after = s }
 unfoldable pub replies : Answering → Standing → Step
 replies a s = record { says = a ∷ []; after = s }
 
--- a bare reply, ESI or PTE
-unfoldable pub esiSays : Opening → Standing → ℕ → ℕ → Standing → Step
-esiSays o s code field after = replies (bareAnswer (s .table) o false code field) after
+-- a bare reply, ESI or PTE; an ESI may name a field of a record
+unfoldable pub esiSays : Opening → Standing → (code field : ℕ) (chars : List ℕ) → Standing → Step
+esiSays o s code field chars after = replies (bareAnswer (s .table) o false code field chars) after
 
 unfoldable pub pteSays : Opening → Standing → ℕ → Standing → Step
-pteSays o s code after = replies (bareAnswer (s .table) o true code noField) after
+pteSays o s code after = replies (bareAnswer (s .table) o true code noField []) after
 
 -- ---- a message's end
 
@@ -150,16 +150,17 @@ varStarts o s f chars =
 
 -- ---- a record
 
--- the first message must be ESI: any other first record gets an ESI reply 1010 on field 1 and closes the file
+-- the first message must be ESI: any other first record gets an ESI reply 1010 on field 1, which shows its first five characters, or
+-- fewer, and closes the file
 unfoldable pub firstRecord : Opening → Standing → List ℕ → Step
-firstRecord o s chars = pick (begins ">>ESI" chars) (esiStarts o s chars) (esiSays o s 1010 (field 1) (moved s closed))
+firstRecord o s chars = pick (begins ">>ESI" chars) (esiStarts o s chars) (esiSays o s 1010 (field 1) chars (moved s closed))
 
 -- outside a frame: a later ESI closes the file with 1011 on field 1; other records (VAR starts no message there) give one 1023 at the first
 -- of them and are skipped until the next SUO or ESI
 unfoldable pub outsideRecord : Opening → Standing → Bool → List ℕ → Step
 outsideRecord o s told chars =
     pick (begins ">>SUO" chars) (suoStarts s chars)
-    (pick (begins ">>ESI" chars) (esiSays o s 1011 (field 1) (moved s closed))
+    (pick (begins ">>ESI" chars) (esiSays o s 1011 (field 1) chars (moved s closed))
     (pick told (silent s) (pteSays o s 1023 (moved s (outside true)))))
 
 unfoldable pub withRecord : Opened → List ℕ → Opened
@@ -186,8 +187,8 @@ recordIn o s closed chars = silent s
 -- and an open frame gets nothing else. Until an ESI is accepted the reply is an ESI
 
 unfoldable pub pastIn : Opening → Standing → Situation → Step
-pastIn o s beforeEsi = esiSays o s 1034 noField (moved s closed)
-pastIn o s (collectingEsi sofar) = esiSays o s 1034 noField (moved s closed)
+pastIn o s beforeEsi = esiSays o s 1034 noField [] (moved s closed)
+pastIn o s (collectingEsi sofar) = esiSays o s 1034 noField [] (moved s closed)
 pastIn o s (outside told) = pteSays o s 1034 (moved s closed)
 pastIn o s (collectingSuo sofar) = pteSays o s 1034 (moved s closed)
 pastIn o s (inFrame f) = pteSays o s 1034 (moved s closed)

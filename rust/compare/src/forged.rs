@@ -3,6 +3,7 @@
 //! of its sessions are written over.
 use model::calendar::is_real_time;
 use model::case::{Call, Case, Front, ModelFront, Outcome, Step, MARGIN};
+use model::fields::NOTICE;
 use model::generate::{self, Dice};
 use model::{Bank, TABLE};
 use std::fmt;
@@ -201,6 +202,19 @@ fn head(bank: &Bank) -> Bank {
     Bank { v: 0, customers: Vec::new(), ..bank.clone() }
 }
 
+/// Whether a notice has only bytes that it can have: those of the texts and, behind a field's name in 1010
+/// and 1011, those that are shown as they are.
+fn is_notice(code: &[u8], notice: &[u8]) -> bool {
+    let plain = |b: &u8| (0x20..=0x7E).contains(b);
+    // The time and two words come first, and they end in a blank each, as does the field's name.
+    let behind_name = notice.iter().enumerate().filter(|(_, b)| **b == b' ').map(|(at, _)| at).nth(3);
+    let value = match code {
+        b"1010" | b"1011" => behind_name.unwrap_or(notice.len()),
+        _ => notice.len(),
+    };
+    notice[..value].iter().all(|b| plain(b) || matches!(b, 0xC4 | 0xD6)) && notice[value..].iter().all(plain)
+}
+
 impl Driven<'_> {
     fn session(&mut self, slot: usize) -> &mut Vec<u8> {
         while self.sessions.len() <= slot {
@@ -298,6 +312,7 @@ impl Driven<'_> {
         let accepted =
             [b"1001", b"1002", b"1003", b"1004", b"1005", b"1036", b"1037"].iter().any(|c| reply[12..16] == c[..]);
         ensure(reply[11] == if accepted { b'K' } else { b'E' }, "K or E is not the code's")?;
+        ensure(is_notice(&reply[12..16], NOTICE.of(reply)), "a notice with other bytes than it can have")?;
         if input.is_some() {
             let by_size = o.finished && reply[12..16] == *b"1034";
             ensure(o.taken > 0 && (by_size || bytes[o.taken - 1] == b'\n'), "a reply not settled by a record's end")?;
@@ -488,5 +503,26 @@ impl fmt::Display for Forged {
             writeln!(f, "before {}: session of file {} forged at byte {}: {bytes}", x.step, x.slot, x.at)?;
         }
         Ok(())
+    }
+}
+
+#[cfg(test)]
+mod tests {
+    use super::*;
+
+    /// The names have letters of their own; what is shown behind them has none but 20 to 7E.
+    #[test]
+    fn bytes_of_a_notice() {
+        let holds = |code: &[u8], text: &[u8]| {
+            let mut notice = [b"09:15:00 ", text].concat();
+            notice.resize(NOTICE.len, b' ');
+            is_notice(code, &notice)
+        };
+        assert!(holds(b"1010", b"MUOTOVIRHE KENT\xC4SS\xC4 MENETELM\xC4 ? ~"));
+        assert!(!holds(b"1010", b"MUOTOVIRHE KENT\xC4SS\xC4 MENETELM\xC4 SK\xC4"));
+        assert!(!holds(b"1011", b"ARVOVIRHE KENT\xC4SS\xC4 AVAINVAIHTO \x7F"));
+        assert!(!holds(b"1011", b"ARVOVIRHE KENT\xC4SS\xC4 AVAINVAIHTO \x1F"));
+        assert!(holds(b"1014", b"K\xC4YTT\xD6AVAIN EI OLE VOIMASSA"));
+        assert!(!holds(b"1014", b"K\xE4YTT\xF6AVAIN EI OLE VOIMASSA"));
     }
 }

@@ -10,7 +10,29 @@ use crate::reply::{reply, Repeated, ReplyKind};
 
 /// A bare reply.
 pub fn bare(bank: &Bank, file: &File, kind: ReplyKind, notice: Notice) -> Vec<u8> {
-    reply(bank, file.time, kind, notice, None, None, None)
+    reply(bank, file, kind, &notice, None, None, None)
+}
+
+/// 1032, 1010 and 1011 of one message.
+fn own_fault(file: &File, kind: Kind, message: &Message) -> Option<Notice> {
+    let notice = fault(kind, message)?;
+    match message {
+        Message::Whole { over, .. } if file.fault == Fault::SurplusShown && notice.field == Some(LENGTH) => {
+            Some(Notice { value: Some(over.clone()), ..notice })
+        }
+        _ => Some(notice),
+    }
+}
+
+/// The same of a frame: the SUO's go before the VAR's.
+fn fault_of_either(file: &File, suo: &Message, var: &Message) -> Option<Notice> {
+    let Some(notice) = own_fault(file, Kind::Suo, suo) else { return own_fault(file, Kind::Var, var) };
+    match (notice.field, var) {
+        (Some(f), Message::Whole { chars, .. }) if file.fault == Fault::VarShownForSuo => {
+            Some(Notice { value: Some(f.of(chars).to_vec()), ..notice })
+        }
+        _ => Some(notice),
+    }
 }
 
 fn generation(f: Field, chars: &[u8]) -> u32 {
@@ -129,13 +151,13 @@ fn full(
     } else {
         None
     };
-    reply(bank, file.time, kind, notice, Some(Repeated { message, digest }), working_key, enclosed)
+    reply(bank, file, kind, &notice, Some(Repeated { message, digest }), working_key, enclosed)
 }
 
 /// The reply to the first ESI, and whether it was accepted.
 pub fn esi(bank: &mut Bank, file: &mut File, message: &Message) -> (Vec<u8>, bool) {
     let kind = ReplyKind::Esi;
-    if let Some(notice) = fault(Kind::Esi, message) {
+    if let Some(notice) = own_fault(file, Kind::Esi, message) {
         return (bare(bank, file, kind, notice), false);
     }
     let Message::Whole { chars, .. } = message else { unreachable!("others are faulty") };
@@ -200,7 +222,7 @@ pub fn method(suo: &Message) -> Option<Method> {
 /// A frame's verdict at the end of its VAR.
 pub fn frame(bank: &mut Bank, file: &mut File, frame: &Frame, var: &Message) -> Vec<u8> {
     let kind = ReplyKind::Pte;
-    if let Some(notice) = fault(Kind::Suo, &frame.suo).or_else(|| fault(Kind::Var, var)) {
+    if let Some(notice) = fault_of_either(file, &frame.suo, var) {
         return bare(bank, file, kind, notice);
     }
     let (Message::Whole { chars: suo, .. }, Message::Whole { chars: var, .. }) = (&frame.suo, var) else {
@@ -224,7 +246,8 @@ fn frame_fault(bank: &mut Bank, file: &File, frame: &Frame, at: usize, suo: &[u8
         return Some(code(1025));
     }
     if let Some(f) = COMPARED.into_iter().find(|f| f.of(suo) != f.of(var)) {
-        return Some(on(1026, f));
+        let value = (file.fault == Fault::ValueAfter1026).then(|| f.of(suo).to_vec());
+        return Some(Notice { value, ..on(1026, f) });
     }
     if let Some(n) = stamp_fault(bank, at, suo) {
         return Some(code(n));

@@ -1,8 +1,8 @@
 //! How often each notice, each field named by one, and each refusal came up.
 use crate::case::{Call, Step};
-use crate::fields::{COMPARED, FIELDS, NOTICE};
+use crate::fields::{Kind, COMPARED, FIELDS, NOTICE};
 use crate::file::Answer;
-use crate::together::{ESI, FRAME};
+use crate::together::{Watched, ESI, FRAME};
 use std::collections::BTreeMap;
 
 pub const CODES: [u32; 28] = [
@@ -20,6 +20,8 @@ pub struct Counts {
     pub refusals: BTreeMap<(u32, &'static str), u64>,
     /// Two checks that one message failed, by the kind of message.
     pub pairs: BTreeMap<(char, &'static str, &'static str), u64>,
+    /// 1010 and 1011 told of a message's field, by the kind of message, code and the field's name.
+    pub told: BTreeMap<(Kind, u32, &'static str), u64>,
     /// Accepted calls by name.
     pub calls: BTreeMap<&'static str, u64>,
 }
@@ -53,16 +55,23 @@ impl Counts {
             let text: String = NOTICE.of(reply)[9..].iter().map(|&b| b as char).collect();
             let field = match code {
                 1026 => text.trim_start_matches("KENTTÄ ").split(':').next().unwrap_or("").to_string(),
-                _ => text.split("KENTÄSSÄ ").nth(1).unwrap_or("").trim_end().to_string(),
+                // The name has no blank in it, and the value follows one.
+                _ => text.split("KENTÄSSÄ ").nth(1).unwrap_or("").split(' ').next().unwrap_or("").to_string(),
             };
             *self.fields.entry((code, field)).or_default() += 1;
         }
     }
 
-    /// Counts each two of the checks a message failed.
-    pub fn see_together(&mut self, kind: char, failing: &[&'static str]) {
+    /// Counts what is told of a message's field, and each two of the checks a message failed.
+    pub fn see_watched(&mut self, watched: &Watched) {
+        if let Some((kind, notice)) = &watched.told {
+            if let Some(f) = notice.field {
+                *self.told.entry((*kind, notice.code, f.name)).or_default() += 1;
+            }
+        }
+        let kind = watched.reply;
         let order: &[&'static str] = if kind == 'E' { &ESI } else { &FRAME };
-        let failed: Vec<&'static str> = order.iter().copied().filter(|c| failing.contains(c)).collect();
+        let failed: Vec<&'static str> = order.iter().copied().filter(|c| watched.failing.contains(c)).collect();
         for (i, a) in failed.iter().enumerate() {
             for b in &failed[i + 1..] {
                 *self.pairs.entry((kind, a, b)).or_default() += 1;
@@ -115,6 +124,24 @@ impl Counts {
         for n in 1..=12 {
             if !self.refusals.keys().any(|(r, _)| *r == n) {
                 out.push(format!("refusal {n}"));
+            }
+        }
+        out
+    }
+
+    /// What was never told of a field of all that can be, by the kind of message.
+    pub fn untold(&self) -> Vec<String> {
+        let values = ["2", "3", "4", "5", "6", "7", "12.1", "12.2", "13", "14", "18"];
+        let mut out = Vec::new();
+        for kind in [Kind::Esi, Kind::Suo, Kind::Var] {
+            // A message is one by its field 1.
+            for f in FIELDS.into_iter().filter(|f| f.number != "1" && f.end() <= kind.length()) {
+                let unused = kind == Kind::Esi && matches!(f.number, "15" | "16");
+                for (code, can) in [(1010, f.number != "18"), (1011, unused || values.contains(&f.number))] {
+                    if can && !self.told.contains_key(&(kind, code, f.name)) {
+                        out.push(format!("{code} {} of {kind:?}", f.name));
+                    }
+                }
             }
         }
         out

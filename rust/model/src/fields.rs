@@ -2,7 +2,7 @@
 use crate::calendar::{day, is_real_time};
 use crate::mac::is_field_character;
 
-#[derive(Clone, Copy, PartialEq, Eq, Debug)]
+#[derive(Clone, Copy, PartialEq, Eq, PartialOrd, Ord, Debug)]
 pub enum Kind {
     Esi,
     Suo,
@@ -110,19 +110,27 @@ pub const FIELDS: [Field; 22] = [
 /// What 1026 compares, in its order.
 pub const COMPARED: [Field; 8] = [VERSION, RECEIVER, SENDER, ONE_TIME_KEY, TRANSPORT, WORKING, AREA, STAMP];
 
-/// A notice: its code and, for 1010, 1011 and 1026, the field it names.
-#[derive(Clone, Copy, PartialEq, Eq, Debug)]
+/// A notice: its code, for 1010, 1011 and 1026 the field it names, and for 1010 and 1011 the value
+/// it shows, as received.
+#[derive(Clone, PartialEq, Eq, Debug)]
 pub struct Notice {
     pub code: u32,
     pub field: Option<Field>,
+    pub value: Option<Vec<u8>>,
 }
 
 pub fn code(code: u32) -> Notice {
-    Notice { code, field: None }
+    Notice { code, field: None, value: None }
 }
 
+/// A notice that names a field and shows nothing of it.
 pub fn on(code: u32, field: Field) -> Notice {
-    Notice { code, field: Some(field) }
+    Notice { code, field: Some(field), value: None }
+}
+
+/// A notice that names a field and shows what was received in it.
+pub fn showing(code: u32, field: Field, value: &[u8]) -> Notice {
+    Notice { code, field: Some(field), value: Some(value.to_vec()) }
 }
 
 /// A message as the file reader hands it over.
@@ -143,12 +151,18 @@ pub fn fault_of_first_record(kind: Kind, record: &[u8]) -> Option<Notice> {
     }
     let length = LENGTH.of(record);
     if !length.iter().all(u8::is_ascii_digit) {
-        return Some(on(1010, LENGTH));
+        return Some(showing(1010, LENGTH, length));
     }
     if length != kind.length().to_string().as_bytes() {
-        return Some(on(1011, LENGTH));
+        return Some(showing(1011, LENGTH, length));
     }
     None
+}
+
+/// What a first record that is no ESI gets: its first five characters, or fewer, stand where a
+/// message has field 1.
+pub fn fault_of_no_esi(record: &[u8]) -> Notice {
+    showing(1010, TAG, &record[..record.len().min(TAG.len)])
 }
 
 fn is_hex(text: &[u8]) -> bool {
@@ -168,7 +182,7 @@ pub fn number(text: &[u8]) -> u64 {
     text.iter().fold(0, |n, b| 10 * n + (b - b'0') as u64)
 }
 
-fn has_good_form(kind: Kind, f: Field, text: &[u8]) -> bool {
+pub(crate) fn has_good_form(kind: Kind, f: Field, text: &[u8]) -> bool {
     match f.number {
         "2" | "3" | "5" | "10" | "11" | "12.1" | "12.2" | "12.3" => is_digits(text),
         // An ESI does not use these two; they are characters like any other there.
@@ -179,7 +193,8 @@ fn has_good_form(kind: Kind, f: Field, text: &[u8]) -> bool {
     }
 }
 
-fn has_good_value(kind: Kind, f: Field, text: &[u8]) -> bool {
+/// Of a field that has good form.
+pub(crate) fn has_good_value(kind: Kind, f: Field, text: &[u8]) -> bool {
     let esi = kind == Kind::Esi;
     match f.number {
         "2" => text == kind.length().to_string().as_bytes(),
@@ -202,18 +217,18 @@ fn has_good_value(kind: Kind, f: Field, text: &[u8]) -> bool {
 /// The first of 1032, 1010 and 1011 that a message deserves; all of 1010 goes before all of 1011.
 pub fn fault(kind: Kind, message: &Message) -> Option<Notice> {
     let (chars, over) = match message {
-        Message::Alone(notice) => return Some(*notice),
+        Message::Alone(notice) => return Some(notice.clone()),
         Message::Cut => return Some(code(1032)),
         Message::Whole { chars, over } => (chars, over),
     };
     let present = || FIELDS.into_iter().filter(|f| f.end() <= kind.length());
     for f in present() {
-        // Characters over stand for a wrong length, so they are field 2's fault.
+        // Characters over stand for a wrong length, so they are field 2's fault, and it is shown.
         if (f == LENGTH && !is_blank(over)) || !has_good_form(kind, f, f.of(chars)) {
-            return Some(on(1010, f));
+            return Some(showing(1010, f, f.of(chars)));
         }
     }
-    present().find(|f| !has_good_value(kind, *f, f.of(chars))).map(|f| on(1011, f))
+    present().find(|f| !has_good_value(kind, *f, f.of(chars))).map(|f| showing(1011, f, f.of(chars)))
 }
 
 #[cfg(test)]

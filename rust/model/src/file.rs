@@ -4,7 +4,7 @@ use crate::checks;
 use crate::fields::*;
 use crate::mac::{internal_code, Method};
 use crate::reply::ReplyKind;
-use crate::together;
+use crate::together::{self, Watched};
 use std::collections::VecDeque;
 
 /// A file's most bytes.
@@ -27,10 +27,15 @@ pub enum Fault {
     LastDayExclusive = 8,
     SecondSuoWithout1024 = 9,
     CrKept = 10,
+    VarShownForSuo = 11,
+    DelShown = 12,
+    ValueAfter1026 = 13,
+    SurplusShown = 14,
+    ShortTagFilled = 15,
 }
 
 impl Fault {
-    pub const ALL: [Fault; 10] = [
+    pub const ALL: [Fault; 15] = [
         Fault::OrderOfTwoChecks,
         Fault::QualifierLeftOut,
         Fault::StampForgottenAtDayChange,
@@ -41,6 +46,11 @@ impl Fault {
         Fault::LastDayExclusive,
         Fault::SecondSuoWithout1024,
         Fault::CrKept,
+        Fault::VarShownForSuo,
+        Fault::DelShown,
+        Fault::ValueAfter1026,
+        Fault::SurplusShown,
+        Fault::ShortTagFilled,
     ];
 
     pub fn numbered(n: u32) -> Fault {
@@ -76,8 +86,8 @@ pub struct File {
     pub clock: u64,
     pub keys_made: u64,
     pub fault: Fault,
-    /// Where wanted, all the checks each message judged fails (`P` for a frame), for counting only.
-    pub watch: Option<Vec<(char, Vec<&'static str>)>>,
+    /// Where wanted, what each message judged fails, for counting only.
+    pub watch: Option<Vec<Watched>>,
     /// Bytes of the file taken so far.
     seen: u64,
     /// The record being read, without its end.
@@ -137,6 +147,15 @@ impl File {
         }
     }
 
+    /// The reply to a first record that is no ESI.
+    fn no_esi(&self, bank: &Bank, record: &[u8]) -> Vec<u8> {
+        let mut notice = fault_of_no_esi(record);
+        if self.fault == Fault::ShortTagFilled {
+            notice.value.iter_mut().for_each(|v| v.resize(TAG.len, 0));
+        }
+        checks::bare(bank, self, ReplyKind::Esi, notice)
+    }
+
     /// The data records as the digest is to see them.
     pub(crate) fn records_for_digest(&self, frame: &Frame) -> Vec<Vec<u8>> {
         if self.fault == Fault::StrippedAfterInternalCode {
@@ -153,14 +172,14 @@ impl File {
                 if starts == Some(Kind::Esi) {
                     return self.begin(bank, Kind::Esi, record);
                 }
-                Some(checks::bare(bank, self, ReplyKind::Esi, on(1010, TAG)))
+                Some(self.no_esi(bank, &record))
             }
             Place::Gathering(kind, mut chars) => {
                 chars.extend(record);
                 self.gather(bank, kind, chars)
             }
             Place::Outside(told) => match starts {
-                Some(Kind::Esi) => Some(checks::bare(bank, self, ReplyKind::Esi, on(1011, TAG))),
+                Some(Kind::Esi) => Some(checks::bare(bank, self, ReplyKind::Esi, showing(1011, TAG, TAG.of(&record)))),
                 Some(Kind::Suo) => self.begin(bank, Kind::Suo, record),
                 _ => {
                     self.place = Place::Outside(true);
@@ -207,7 +226,7 @@ impl File {
         match kind {
             Kind::Esi => {
                 if let Some(seen) = &mut self.watch {
-                    seen.push(('E', together::esi(bank, &message)));
+                    seen.push(together::watched_esi(bank, &message));
                 }
                 let (reply, accepted) = checks::esi(bank, self, &message);
                 self.place = if accepted { Place::Outside(false) } else { Place::Closed };
@@ -223,8 +242,8 @@ impl File {
                 let frame = self.frame.take().expect("a frame is open");
                 self.place = Place::Outside(false);
                 if self.watch.is_some() {
-                    let failing = together::frame(bank, self, &frame, &message);
-                    self.watch.iter_mut().for_each(|seen| seen.push(('P', failing.clone())));
+                    let watched = together::watched_frame(bank, self, &frame, &message);
+                    self.watch.iter_mut().for_each(|seen| seen.push(watched.clone()));
                 }
                 Some(checks::frame(bank, self, &frame, &message))
             }

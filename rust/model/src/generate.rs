@@ -712,9 +712,31 @@ impl Maker {
         }
     }
 
+    /// A first record of up to seven characters, mostly no ESI; ended by LF, by CR LF, or by the file's
+    /// end, before which a CR may stand that is a character of it.
+    fn write_short_first(&mut self, p: &mut Pending) {
+        let d = &mut self.d;
+        let mut record: Vec<u8> =
+            d.pick(&[b"" as &[u8], b">>", b">>ES", b">>ESI", b">>SUO", b">>VAR", b"HELLO"]).to_vec();
+        let odd = d.pick(&ODD);
+        record.extend((0..7).map(|_| one_of(d, odd)));
+        record.truncate(d.below(8));
+        match d.below(4) {
+            0 => record.push(b'\n'),
+            1 => record.extend(b"\r\n"),
+            2 => record.push(b'\r'),
+            _ => (),
+        }
+        // Without a line end the file is over with it.
+        if record.last() != Some(&b'\n') {
+            p.items_left = 0;
+        }
+        p.unread.extend(record);
+    }
+
     fn write_first(&mut self, p: &mut Pending) {
         let mut out = Vec::new();
-        match self.d.weighted(&[3, 4, 93]) {
+        match self.d.weighted(&[3, 3, 88, 3, 3]) {
             0 if self.d.chance(60) => {
                 // An empty file, or one with nothing before its frames.
                 p.items_left = 0;
@@ -723,6 +745,13 @@ impl Maker {
             1 => {
                 let record = self.junk();
                 self.line(p, &mut out, &record);
+            }
+            3 => self.write_short_first(p),
+            4 => {
+                let wish = self.wish(p.customer);
+                for record in self.faulty(Kind::Esi, &customer::esi(&wish)) {
+                    self.line(p, &mut out, &record);
+                }
             }
             _ => {
                 let mut wish = self.wish(p.customer);
@@ -800,7 +829,13 @@ impl Maker {
             4 => {
                 let wish = self.wish(p.customer);
                 let mut message = customer::esi(&wish);
-                message.truncate(self.d.pick(&[5, 8, 11, 80, 161]));
+                message.extend(b"  MORE");
+                message.truncate(self.d.pick(&[5, 6, 8, 11, 80, 161, 167]));
+                if self.d.chance(30) {
+                    // What follows the first five characters makes no difference.
+                    let odd = self.d.pick(&ODD);
+                    message[5..].iter_mut().for_each(|b| *b = one_of(&mut self.d, odd));
+                }
                 self.line(p, &mut out, &message);
             }
             _ => {
@@ -904,8 +939,12 @@ impl Maker {
         let odd = if damaged { 20 } else { 6 };
         let mut out = Vec::new();
         let shape = if p.tour { 0 } else { self.d.weighted(&[86, 8, 2, 2, 2]) };
+        // A fault of the SUO's, of the VAR's, or of both, that the reply shows.
+        let which = if p.tour { 0 } else { self.d.weighted(&[90, 4, 3, 3]) };
+        let (bad_suo, bad_var) = [(false, false), (true, false), (false, true), (true, true)][which];
         if shape != 2 {
-            for record in self.lay(&suo, odd) {
+            let laid = if bad_suo { self.faulty(Kind::Suo, &suo) } else { self.lay(&suo, odd) };
+            for record in laid {
                 self.line(p, &mut out, &record);
             }
         }
@@ -926,7 +965,8 @@ impl Maker {
                 self.line(p, &mut out, &suo[..n]);
             }
             _ => {
-                for record in self.lay(&var, odd) {
+                let laid = if bad_var { self.faulty(Kind::Var, &var) } else { self.lay(&var, odd) };
+                for record in laid {
                     self.line(p, &mut out, &record);
                 }
             }
@@ -1215,6 +1255,36 @@ impl Maker {
         }
     }
 
+    /// A message with a fault that a reply shows, laid out: contents wrong in a field, which perhaps lies
+    /// over several records; a first record with another length; characters over.
+    fn faulty(&mut self, kind: Kind, message: &[u8]) -> Vec<Vec<u8>> {
+        let d = &mut self.d;
+        let mut m = message.to_vec();
+        let code = d.pick(&[1010, 1011]);
+        match d.weighted(&[75, 15, 10]) {
+            0 => {
+                let present: Vec<Field> = FIELDS.into_iter().filter(|f| f.end() <= kind.length()).collect();
+                let f = d.pick(&present[2..]);
+                let text = wrong(d, kind, f, code).or_else(|| wrong(d, kind, f, 2021 - code));
+                put(&mut m, f, &text.expect("one of the two"));
+                across(d, &m, f)
+            }
+            1 => {
+                let text = wrong(d, kind, LENGTH, code).expect("it has both rules");
+                put(&mut m, LENGTH, &text);
+                let n = d.pick(&[11, 12, 80, m.len()]);
+                d.pick(&[vec![m[..n].to_vec()], m.chunks(n).map(|c| c.to_vec()).collect()])
+            }
+            _ => {
+                m.extend(vec![b' '; d.below(3)]);
+                let odd = d.pick(&ODD);
+                m.extend((0..1 + d.below(6)).map(|_| one_of(d, odd)));
+                let f = d.pick(&[SOFTWARE, ONE_TIME_KEY]);
+                across(d, &m, f)
+            }
+        }
+    }
+
     /// Lays a message out as records; oddly with so many chances in a hundred.
     fn lay(&mut self, message: &[u8], odd: usize) -> Vec<Vec<u8>> {
         let d = &mut self.d;
@@ -1330,6 +1400,55 @@ fn edge(d: &mut Dice, prev: &Previous) -> u32 {
     }
 }
 
+/// Characters that a field's contents are drawn from; none: any byte.
+const ODD: [&[u8]; 4] = [b"", b"\x1F\x20\x7E\x7F\xC4", b"AZaz09 #\"?~\x7F\x80\xFF", b"AB \x00\t\r\x1F\xD6"];
+const EVEN: [&[u8]; 3] = [b"0123456789", b"0123456789ABCDEF", b"AZKXS19 %()*+,-./:;<=>"];
+
+/// One of these bytes, or any byte that does not end a record.
+fn one_of(d: &mut Dice, letters: &[u8]) -> u8 {
+    if !letters.is_empty() {
+        return d.pick(letters);
+    }
+    match d.draw() as u8 {
+        b'\n' => 0xFF,
+        b => b,
+    }
+}
+
+/// Contents of a field that are wrong in form (1010), or well formed and wrong in value (1011); none
+/// where the field has no such rule.
+fn wrong(d: &mut Dice, kind: Kind, f: Field, code: u32) -> Option<Vec<u8>> {
+    if f == SOFTWARE && code == 1011 {
+        return Some(vec![b' '; f.len]);
+    }
+    let sets = [&ODD[..], &EVEN[..]].concat();
+    // So many that a rule there is has been met: the rarest is met by one in ten.
+    for _ in 0..200 {
+        let letters = d.pick(&sets);
+        let text: Vec<u8> = (0..f.len).map(|_| one_of(d, letters)).collect();
+        let form = has_good_form(kind, f, &text);
+        if (code == 1010 && !form) || (code == 1011 && form && !has_good_value(kind, f, &text)) {
+            return Some(text);
+        }
+    }
+    None
+}
+
+/// A message in one record, or cut inside this field once or twice, perhaps with an empty record there.
+/// The first record has eleven characters at least.
+fn across(d: &mut Dice, message: &[u8], f: Field) -> Vec<Vec<u8>> {
+    let inside: Vec<usize> = (f.at + 1..f.end()).filter(|at| *at >= 11).collect();
+    if inside.is_empty() || d.chance(40) {
+        return vec![message.to_vec()];
+    }
+    let (one, two) = (d.pick(&inside), d.pick(&inside));
+    let (low, high) = (one.min(two), one.max(two));
+    match d.below(2) {
+        0 => vec![message[..low].to_vec(), message[low..].to_vec()],
+        _ => vec![message[..low].to_vec(), message[low..high].to_vec(), message[high..].to_vec()],
+    }
+}
+
 /// Random pieces, the first of at least `first` characters, some of them empty.
 fn pieces(d: &mut Dice, message: &[u8], first: usize) -> Vec<Vec<u8>> {
     let mut out = Vec::new();
@@ -1344,4 +1463,90 @@ fn pieces(d: &mut Dice, message: &[u8], first: usize) -> Vec<Vec<u8>> {
         at += n;
     }
     out
+}
+
+#[cfg(test)]
+mod tests {
+    use super::*;
+
+    fn present(kind: Kind) -> Vec<Field> {
+        FIELDS.into_iter().filter(|f| f.number != "1" && f.end() <= kind.length()).collect()
+    }
+
+    /// What is put into a field is wrong by the rule asked for, or the field has no such rule.
+    #[test]
+    fn wrong_contents_are_wrong() {
+        let d = &mut Dice(1);
+        for kind in [Kind::Esi, Kind::Suo, Kind::Var] {
+            for f in present(kind) {
+                let [form, value] =
+                    [1010, 1011].map(|code| (0..50).map(|_| wrong(d, kind, f, code)).collect::<Vec<_>>());
+                assert!(form.iter().flatten().all(|text| text.len() == f.len && !has_good_form(kind, f, text)));
+                assert!(value
+                    .iter()
+                    .flatten()
+                    .all(|text| has_good_form(kind, f, text) && !has_good_value(kind, f, text)));
+                assert_eq!(form.iter().all(|t| t.is_some()), f.number != "18", "{}", f.number);
+                assert!(form.iter().chain(&value).any(|t| t.is_some()), "{}", f.number);
+            }
+        }
+    }
+
+    /// All five bytes at the bounds of what is shown as it is come up in the form faults of every field.
+    #[test]
+    fn wrong_contents_have_the_bytes_at_the_bounds() {
+        let d = &mut Dice(2);
+        for f in present(Kind::Esi).into_iter().filter(|f| f.number != "18") {
+            let drawn: Vec<u8> = (0..500).flat_map(|_| wrong(d, Kind::Esi, f, 1010).expect("it has a form")).collect();
+            assert!(
+                b"\x1F\x20\x7E\x7F\xC4".iter().all(|b| f.len == 1 && *b == b' ' || drawn.contains(b)),
+                "{}",
+                f.number
+            );
+            assert!(!drawn.contains(&b'\n'), "{}", f.number);
+        }
+    }
+
+    #[test]
+    fn a_message_is_cut_inside_the_field() {
+        let d = &mut Dice(3);
+        let message: Vec<u8> = (0..161).collect();
+        for f in FIELDS {
+            let laid: Vec<Vec<Vec<u8>>> = (0..100).map(|_| across(d, &message, f)).collect();
+            assert!(laid.iter().all(|records| records.concat() == message && records[0].len() >= 11));
+            assert!(laid.iter().flat_map(|r| r.split_last()).all(|(_, r)| {
+                let ends = r.iter().scan(0, |at, record| {
+                    *at += record.len();
+                    Some(*at)
+                });
+                ends.into_iter().all(|at| f.at < at && at < f.end())
+            }));
+            for n in [2, 3] {
+                assert_eq!(laid.iter().any(|r| r.len() == n), f.end() > 12 && f.len > 1, "{}", f.number);
+            }
+        }
+    }
+
+    /// First records of every length up to seven, with each of the four ends.
+    #[test]
+    fn short_first_records() {
+        let bank = generate_bank(&mut Dice(4));
+        let model = Model::new(&[bank.encode(), vec![0; TABLE]].concat()[..TABLE]);
+        let d = Dice(5);
+        let mut maker = Maker { d, plan: Plan::default(), model, steps: Vec::new(), pending: Vec::new(), slots: 0 };
+        let mut seen = std::collections::BTreeSet::new();
+        maker.open();
+        let p = maker.pending.pop().expect("just opened");
+        for _ in 0..2000 {
+            let mut p = Pending { items_left: 1, ..p.clone() };
+            maker.write_short_first(&mut p);
+            let file = &p.unread;
+            let end =
+                [&b"\r\n"[..], b"\n", b"\r", b""].into_iter().position(|end| file.ends_with(end)).expect("the last");
+            let length = file.len() - [2, 1, 1, 0][end];
+            assert_eq!(p.items_left == 0, end > 1);
+            seen.insert((length, end));
+        }
+        assert!((0..8).all(|n| (0..4).all(|end| seen.contains(&(n, end)))), "{seen:?}");
+    }
 }

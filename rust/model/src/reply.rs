@@ -2,6 +2,7 @@
 use crate::bank::Bank;
 use crate::des::encipher;
 use crate::fields::*;
+use crate::file::{Fault, File};
 use crate::mac::{checksum, hex16};
 
 /// What a full reply repeats of the customer's message: its characters (a frame's SUO) and the
@@ -21,8 +22,23 @@ fn latin1(text: &str) -> Vec<u8> {
     text.chars().map(|c| c as u32 as u8).collect()
 }
 
-/// The text of document 001 table 2, NNN being the field's name.
-pub fn text(notice: Notice) -> Vec<u8> {
+/// A byte as received, as a reply shows it.
+fn shown(b: u8) -> u8 {
+    match b {
+        0x20..=0x7E => b,
+        _ => b'?',
+    }
+}
+
+/// What follows the field's name: one blank and the value, where the notice has one.
+fn value_after_name(notice: &Notice, fault: Fault) -> Vec<u8> {
+    let Some(value) = &notice.value else { return Vec::new() };
+    let one = |&b: &u8| if fault == Fault::DelShown && b == 0x7F { b } else { shown(b) };
+    [b' '].into_iter().chain(value.iter().map(one)).collect()
+}
+
+/// The text of document 001 table 2 up to VVV, NNN being the field's name.
+pub fn text(notice: &Notice) -> Vec<u8> {
     let name = notice.field.map_or("", |f| f.name);
     let text = match notice.code {
         1001 => "HYVÄKSYTTY".to_string(),
@@ -66,9 +82,9 @@ fn put(reply: &mut [u8], f: Field, value: &[u8]) {
 /// is a working key and the transport key it goes under.
 pub fn reply(
     bank: &Bank,
-    time: u32,
+    file: &File,
     kind: ReplyKind,
-    notice: Notice,
+    notice: &Notice,
     repeated: Option<Repeated>,
     working_key: Option<u64>,
     enclosed: Option<(u64, u64)>,
@@ -113,9 +129,54 @@ pub fn reply(
         }
         None => put(&mut out, REQUEST, b"0"),
     }
-    let clock = format!("{:02}:{:02}:{:02} ", time / 10_000, time / 100 % 100, time % 100);
-    let mut notice_text = clock.into_bytes();
-    notice_text.extend(text(notice));
-    put(&mut out, NOTICE, &notice_text);
+    put(&mut out, NOTICE, &notice_field(file, notice));
     out
+}
+
+/// ILMOITUS: the time, the text and the value, cut where the field ends.
+fn notice_field(file: &File, notice: &Notice) -> Vec<u8> {
+    let time = file.time;
+    let clock = format!("{:02}:{:02}:{:02} ", time / 10_000, time / 100 % 100, time % 100);
+    let mut out = clock.into_bytes();
+    out.extend(text(notice));
+    out.extend(value_after_name(notice, file.fault));
+    out.truncate(NOTICE.len);
+    out
+}
+
+#[cfg(test)]
+mod tests {
+    use super::*;
+
+    fn file() -> File {
+        File::new(941015, 91500, 1, 0)
+    }
+
+    #[test]
+    fn bytes_outside_20_to_7e_are_shown_as_a_question_mark() {
+        assert!((0x00..=0x1F).chain(0x7F..=0xFF).all(|b| shown(b) == b'?'));
+        assert!((0x20..=0x7E).all(|b| shown(b) == b));
+        let value = value_after_name(&showing(1010, VERSION, b"\x1F\x20\x7E\x7F\xC4"), Fault::None);
+        assert_eq!(value, b" ? ~??");
+        // One for each byte, so that a letter of two bytes has two; what is printable stays as it is.
+        assert_eq!(value_after_name(&showing(1010, VERSION, "Ä\"#a~".as_bytes()), Fault::None), b" ??\"#a~");
+    }
+
+    #[test]
+    fn only_a_notice_with_a_value_shows_one() {
+        assert_eq!(value_after_name(&code(1032), Fault::None), b"");
+        assert_eq!(value_after_name(&on(1026, VERSION), Fault::None), b"");
+        assert_eq!(value_after_name(&showing(1010, TAG, b""), Fault::None), b" ");
+    }
+
+    /// No customer's field is so long that it would be cut, so one is made up.
+    #[test]
+    fn a_value_is_cut_where_the_field_ends() {
+        let longest = FIELDS.iter().map(|f| notice_field(&file(), &showing(1010, *f, &vec![b'X'; f.len])).len()).max();
+        assert_eq!(longest, Some(58));
+        let cut = notice_field(&file(), &showing(1010, RECEIVER_ID, &[b'X'; 25]));
+        let mut expected = latin1("09:15:00 MUOTOVIRHE KENTÄSSÄ VAST.TUNNUS ");
+        expected.resize(60, b'X');
+        assert_eq!(cut, expected);
+    }
 }

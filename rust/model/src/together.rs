@@ -15,6 +15,26 @@ pub const FRAME: [&str; 22] = [
     "1026", "1015", "1016", "1018", "1013", "1014", "1017", "1031", "1019", "1020", "1034",
 ];
 
+/// What a message or frame fails, and which message's field a 1010 or 1011 is told of.
+#[derive(Clone, PartialEq, Eq, Debug)]
+pub struct Watched {
+    /// `E` for an ESI, `P` for a frame.
+    pub reply: char,
+    pub failing: Vec<&'static str>,
+    pub told: Option<(Kind, Notice)>,
+}
+
+pub fn watched_esi(bank: &Bank, message: &Message) -> Watched {
+    let told = fault(Kind::Esi, message).map(|n| (Kind::Esi, n));
+    Watched { reply: 'E', failing: esi(bank, message), told }
+}
+
+pub fn watched_frame(bank: &Bank, file: &File, of: &Frame, var: &Message) -> Watched {
+    let suo = fault(Kind::Suo, &of.suo).map(|n| (Kind::Suo, n));
+    let told = suo.or_else(|| fault(Kind::Var, var).map(|n| (Kind::Var, n)));
+    Watched { reply: 'P', failing: frame(bank, file, of, var), told }
+}
+
 /// Whether a field of digits can be used as a number.
 fn digits(f: Field, chars: &[u8]) -> Option<u64> {
     f.of(chars).iter().all(u8::is_ascii_digit).then(|| number(f.of(chars)))
@@ -71,7 +91,7 @@ fn form_and_value(kind: Kind, message: &Message, names: [&'static str; 3], out: 
                 let mut mended = Message::Whole { chars: chars.clone(), over: Vec::new() };
                 for _ in 0..30 {
                     match (fault(kind, &mended), &mut mended) {
-                        (Some(Notice { code: 1010, field: Some(f) }), Message::Whole { chars, .. }) => {
+                        (Some(Notice { code: 1010, field: Some(f), .. }), Message::Whole { chars, .. }) => {
                             let good: &[u8] = match f.number {
                                 "12.1" => b"941015",
                                 "3" => b"120",

@@ -1,6 +1,7 @@
 //! The comparison on generated cases: the model agrees with itself behind the edge's calls, and
 //! each planted fault is found.
-use model::case::{compare, shrink, Case, ModelFront};
+use model::case::{compare, shrink, Case, Model, ModelFront};
+use model::count::Counts;
 use model::file::Fault;
 use model::generate;
 
@@ -19,6 +20,23 @@ fn a_seed_always_makes_the_same_case() {
     for seed in 1..50 {
         assert_eq!(generate::case(seed), generate::case(seed));
     }
+}
+
+/// Each field of each kind of message is told of in 1010 and in 1011, where it can be.
+#[test]
+fn every_field_of_every_message_is_told_of() {
+    let mut counts = Counts::default();
+    for case in (1..6000).map(generate::case) {
+        let mut model = Model::new(&case.start);
+        for step in &case.steps {
+            model.step(step);
+            if let Some(file) = step.slot().and_then(|slot| model.files.get_mut(slot)?.as_mut()) {
+                file.watch.take().iter().flatten().for_each(|w| counts.see_watched(w));
+                file.watch = Some(Vec::new());
+            }
+        }
+    }
+    assert!(counts.untold().is_empty(), "{:?}", counts.untold());
 }
 
 #[test]

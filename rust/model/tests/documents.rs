@@ -52,7 +52,7 @@ fn the_one_whole_reply() {
     expected.extend([b' '; 25]);
     expected.extend(b"003701234567             00000000000000000");
     expected.extend([b' '; 58]);
-    expected.extend(b"0                09:15:00 MUOTOVIRHE KENT\xC4SS\xC4 SANOMATUNNUS                   ");
+    expected.extend(b"0                09:15:00 MUOTOVIRHE KENT\xC4SS\xC4 SANOMATUNNUS HELLO             ");
     assert_eq!(expected.len(), 237);
     assert_eq!(replies, [expected]);
 }

@@ -6,14 +6,18 @@ use Rattle.answers.proofs.full_answer.Tie as tie
 
 returns : tie.Need-returns
 returns c =
-    full-made _ _ _ _ _ _ (c .before .before .before .before .before .before .before .before .before .settings .ensures)
-    (c .before .before .before .before .before .before .customer-of .ensures) (c .before .before .before .working-generation .ensures)
-    (c .before .before .held .ensures) (c .before .transport-generation .ensures) (c .held2 .ensures)
+    let at-held2 = c .before in
+    let at-held = at-held2 .before .before in
+    let at-customer = at-held .before .before .before .before in
+    full-made _ _ _ _ _ _ (at-customer .before .before .before .settings .ensures) (at-customer .customer-of .ensures)
+    (at-held .before .working-generation .ensures) (at-held .held .ensures) (at-held2 .before .transport-generation .ensures)
+    (at-held2 .held2 .ensures) (c .no-contents .ensures)
 
 pub full-answer-spec : {M : Type 1} → statement M
 full-answer-spec =
     tie.close
     (tie.spec
+    (λ c κs. search needs)
     (λ c κs. search needs)
     (λ c κs. search needs)
     (λ c κs. search needs)

@@ -1,5 +1,5 @@
--- The text before the name, the name where the code has one, and what stands after it in 1026, each filled with blanks.
-use mathlib.Core.Path.{_≡_, refl, sym, ap, _∙_}
+-- The text before the name, the name where the code has one, and what stands after it, each filled with blanks.
+use mathlib.Core.Path.{_≡_, sym, ap, _∙_}
 use Prim.Native.Nat.{_+_}
 use native.Mathlib.Omega.{arith}
 use mathlib.Core.Bool.{true}
@@ -7,19 +7,19 @@ use borrow.Author.Tests.{not-true, not-false}
 use mathlib.Core.List.{_++_}
 use lib.ListN.{length-append}
 use Rattle.text.specs.Characters.{padded}
-use Rattle.text.specs.Letters.{letters}
+use Rattle.message.specs.Contents.{heldIn}
 use Rattle.notice.specs.Codes.{codes, codeIn, fieldName}
 use Rattle.notice.proofs.Padding.{join-filled}
-use Rattle.notice.proofs.Texts.{unnamed, named, named-after, code-room, name-room, name-length}
+use Rattle.notice.proofs.Texts.{restOf, unnamed, named, code-room, name-room, name-length}
 use borrow.Author.Needs.{needs}
 use Rattle.notice.proofs.text.Statement.{statement}
 use Rattle.notice.proofs.text.Tie as tie
 
 returns : tie.Need-returns
 returns c =
-    let s = c .before .before .before in
+    let a = c .before .before .before .args in
     c .before .before .before2 .ensures
-    ∙ ap (padded 51) (unnamed (s .args .code) (s .args .field) (sym (c .before .names-field .ensures) ∙ not-true _ (c .if1 .taken)))
+    ∙ ap (padded 51) (unnamed (a .code) (a .field) (heldIn (a .contents)) (sym (c .before .names-field .ensures) ∙ not-true _ (c .if1 .taken)))
 
 joined-requires : tie.Need-joined-requires
 joined-requires c κs = omega (arith, code-room (c .before .before .before .before .before .args .code))
@@ -41,39 +41,35 @@ named-so-far c =
     join-filled 51 _ _ (fieldName (a .field)) _ _ _ (omega (arith, code-room (a .code))) (c .before .before .before-length .ensures)
     (at-if1 c .before .before .before2 .ensures) (c .before .field-name .ensures) (c .joined .ensures)
 
-returns-2 : tie.Need-returns-2
-returns-2 c =
-    let if1 = at-if1 (c .before) in
-    let a = at-start if1 .args in
-    named-so-far (c .before) ∙ ap (padded 51) (named (a .code) (a .field) (names if1) (c .if2 .taken))
-
 add-end : tie.Need-add-end
 add-end c =
-    let a = at-start (at-if1 (c .before .before)) .args in
+    let a = at-start (at-if1 (c .before)) .args in
     omega (arith, code-room (a .code), name-length (a .field))
 
 joined-requires-2 : tie.Need-joined-requires-2
 joined-requires-2 c κs =
-    let if1 = at-if1 (c .before .before .before .before) in
-    omega (arith, name-room (at-start if1 .args .code) (at-start if1 .args .field) (names if1))
+    let if1 = at-if1 (c .before .before) in
+    omega (arith, name-room (at-start if1 .args .code) (at-start if1 .args .field) (heldIn (at-start if1 .args .contents)) (names if1))
 
-returns-3 : tie.Need-returns-3
-unfolding padded letters
-returns-3 c =
-    let at-joined = c .before .before .before .before .before in
+returns-2 : tie.Need-returns-2
+returns-2 c =
+    let at-after = c .before in
+    let at-length = at-after .before in
+    let at-joined = at-length .before in
     let if1 = at-if1 at-joined in
     let a = at-start if1 .args in
     let l = at-joined .before .before .before-length in
-    let m = c .before .before .before .name-length in
+    let m = at-length .name-length in
     let b = codeIn (a .code) codes .before in
     let n = fieldName (a .field) in
-    join-filled 51 (l .result + m .result) (b ++ n) (letters ": SUO-SANOMA <> VAR-SANOMA") _ _ _
-    (omega (arith, length-append b n, name-room (a .code) (a .field) (names if1)))
+    let v = heldIn (a .contents) in
+    join-filled 51 (l .result + m .result) (b ++ n) (restOf (codeIn (a .code) codes) v) _ _ _
+    (omega (arith, length-append b n, name-room (a .code) (a .field) v (names if1)))
     (omega (arith, length-append b n, l .ensures, m .ensures))
     (named-so-far at-joined)
-    refl
+    (at-after .after-name .ensures)
     (c .joined2 .ensures)
-    ∙ ap (padded 51) (named-after (a .code) (a .field) (c .before .before .before .before .if2 .left))
+    ∙ ap (padded 51) (named (a .code) (a .field) v (names if1))
 
 pub text-spec : {M : Type 1} → statement M
 text-spec =
@@ -85,8 +81,8 @@ text-spec =
     (λ c κs. search needs)
     (λ c κs. search needs)
     joined-requires
-    returns-2
     (λ c κs. search needs)
     add-end
+    (λ c κs. search needs)
     joined-requires-2
-    returns-3)
+    returns-2)

@@ -21,7 +21,7 @@ returns-2 c =
     let at-enum-told2 = c .before .before .before in
     let at-args = at-enum-told2 .before .before .before in
     by-case (λ (x : Kind). cutShort x (at-args .args .s) (now (at-args .args .t))) (at-enum-told2 .enum-told2 .given .1)
-    (barely _ _ _ _ _ (c .bare .ensures) (c .before .closed-at .ensures))
+    (barely _ _ _ _ _ _ (c .bare .ensures) (c .before .closed-at .ensures))
 
 returns-3 : tie.Need-returns-3
 unfolding cutShort

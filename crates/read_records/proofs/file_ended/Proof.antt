@@ -36,7 +36,7 @@ returns-4 c =
     let at-enum-told3 = c .before .before .before in
     let at-args = at-enum-told3 .before .before .before in
     by-case (λ (x : Place). finishedIn x (at-args .args .s) (now (at-args .args .t))) (at-enum-told3 .enum-told3 .given .1)
-    (barely _ _ _ _ _ (c .bare .ensures) (c .before .closed-at .ensures))
+    (barely _ _ _ _ _ _ (c .bare .ensures) (c .before .closed-at .ensures))
 
 returns-5 : tie.Need-returns-5
 unfolding fileEnded finishedIn

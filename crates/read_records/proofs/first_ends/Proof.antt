@@ -19,7 +19,7 @@ returns-2 c =
     let at-if1 = c .before .before .before in
     let at-begins-esi = at-if1 .before in
     skipped (Gives _ _) _ _ _ _ (at-begins-esi .begins-esi .ensures) (at-if1 .if1 .left)
-    (barely _ _ _ _ _ (c .bare .ensures) (c .before .closed-at .ensures))
+    (barely _ _ _ _ _ _ (c .bare-tag .ensures) (c .before .closed-at .ensures))
 
 pub first-ends-spec : {M : Type 1} → statement M
 first-ends-spec =

@@ -13,7 +13,7 @@ returns-2 c =
     let at-if1 = at-begins-esi .before in
     let at-begins-suo = at-if1 .before in
     outside-esi _ _ (at-begins-suo .begins-suo .ensures) (at-if1 .if1 .left) (at-begins-esi .begins-esi .ensures)
-    (c .before .before .if2 .taken) (c .bare .ensures) (c .before .closed-at .ensures)
+    (c .before .before .if2 .taken) (c .bare-tag .ensures) (c .before .closed-at .ensures)
 
 returns-3 : tie.Need-returns-3
 returns-3 c =
@@ -33,7 +33,7 @@ returns-4 c =
     let at-if1 = at-begins-esi .before in
     let at-begins-suo = at-if1 .before in
     outside-untold _ _ (at-begins-suo .begins-suo .ensures) (at-if1 .if1 .left) (at-begins-esi .begins-esi .ensures) (at-if2 .if2 .left)
-    (c .before .if3 .left) (c .bare2 .ensures) (c .before .before .at-place .ensures) (at-no-characters .no-characters .ensures)
+    (c .before .if3 .left) (c .bare .ensures) (c .before .before .at-place .ensures) (at-no-characters .no-characters .ensures)
 
 pub outside-ends-spec : {M : Type 1} → statement M
 outside-ends-spec =

@@ -17,7 +17,7 @@ returns c =
     let at-text = c .before .before in
     let at-time = at-text .before .before .before .before .before in
     let at-text-of = at-time .before .before .before in
-    let at-clock = at-text-of .before in
+    let at-clock = at-text-of .before .before in
     let at-start = at-clock .before .before in
     end (notice-filled (at-start .args .a) _ _ (at-clock .clock .ensures) (at-text-of .text .ensures))
     (then (begin (at-time .put .ensures)) (at-text .put2 .ensures))

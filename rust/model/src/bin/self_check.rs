@@ -23,8 +23,8 @@ fn main() {
             let answer = model.step(step);
             counts.see(step, &answer);
             if let Some(file) = step.slot().and_then(|slot| model.files.get_mut(slot)?.as_mut()) {
-                for (kind, failing) in file.watch.take().unwrap_or_default() {
-                    counts.see_together(kind, &failing);
+                for watched in file.watch.take().unwrap_or_default() {
+                    counts.see_watched(&watched);
                 }
                 file.watch = watching.then(Vec::new);
             }
@@ -37,6 +37,8 @@ fn main() {
     counts.print();
     let missing = counts.missing();
     println!("never came up: {}", if missing.is_empty() { "nothing".to_string() } else { missing.join("; ") });
+    let untold = counts.untold();
+    println!("never told of a field: {}", if untold.is_empty() { "nothing".to_string() } else { untold.join("; ") });
     println!("{cases} cases, {steps} calls, {bytes} bytes taken");
     println!(
         "making {:.0} cases a second, running {:.0} cases a second, both {:.0}",
