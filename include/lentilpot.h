@@ -50,8 +50,8 @@
 extern "C" {
 #endif
 
-#define LP_VERSION "1.0"       /* of these functions and constants */
-#define LP_VERSION_NUMBER 100  /* the same for #if: 100 times the first number, and the second */
+#define LP_VERSION "1.1"       /* of these functions and constants */
+#define LP_VERSION_NUMBER 101  /* the same for #if: 100 times the first number, and the second */
 
 #define LP_TABLE_SIZE 49152  /* the bytes of a table */
 #define LP_SESSION_SIZE 475  /* the bytes of a session: what lp_session_size() says */
@@ -83,8 +83,8 @@ extern "C" {
 #define LP_CODE_ACCEPTED_CHANGEOVER_ENDED 1036
 #define LP_CODE_ACCEPTED_NO_CHANGEOVER_TO_END 1037
 /* All others are E, refused: */
-#define LP_CODE_FIELD_FORMAT 1010                    /* the notice names the field */
-#define LP_CODE_FIELD_VALUE 1011                     /* the notice names the field */
+#define LP_CODE_FIELD_FORMAT 1010                    /* the notice names the field and shows what was received in it */
+#define LP_CODE_FIELD_VALUE 1011                     /* likewise */
 #define LP_CODE_VERSION_TOO_OLD 1012
 #define LP_CODE_TRANSPORT_KEY_NOT_VALID 1013
 #define LP_CODE_WORKING_KEY_NOT_VALID 1014
@@ -155,7 +155,8 @@ extern "C" {
 #define LP_WIDTH_NOTICE 60
 #define LP_AT_RECEIPT 237                    /* 21: a PTE's alone; blank */
 #define LP_WIDTH_RECEIPT 80
-/* Within the notice: its text, and in the three codes that name a field where that name begins. It ends before a blank or colon. */
+/* Within the notice: its text, and in the three codes that name a field where that name begins. It ends before a blank or colon. With
+ * 1010 and 1011 a blank follows, and the field as it was received, in which a byte outside 20 to 7E hex is '?': lp_reply_contents. */
 #define LP_AT_TEXT 186
 #define LP_WIDTH_TEXT 51
 #define LP_AT_NAME_1010 206
@@ -336,6 +337,29 @@ static inline uint32_t lp_reply_code(const uint8_t *reply) {
     uint32_t code = 0;
     for (size_t i = 0; i < LP_WIDTH_CODE; i++) code = 10 * code + reply[LP_AT_CODE + i] - '0';
     return code;
+}
+
+/* The name of the field that a reply's notice tells: where it begins, and its length. 0 where the code names none. */
+static inline size_t lp_reply_field(const uint8_t *reply, size_t *length) {
+    uint32_t code = lp_reply_code(reply);
+    size_t at = code == LP_CODE_FIELD_FORMAT         ? LP_AT_NAME_1010
+                : code == LP_CODE_FIELD_VALUE        ? LP_AT_NAME_1011
+                : code == LP_CODE_SUO_AND_VAR_DIFFER ? LP_AT_NAME_1026
+                                                     : 0;
+    *length = 0;
+    while (at && reply[at + *length] != ' ' && reply[at + *length] != ':' && at + *length < LP_AT_RECEIPT - 1) ++*length;
+    return at;
+}
+
+/* What was received in that field: where it begins in the reply, and its length without the blanks at its end. 0 where the code shows none. */
+static inline size_t lp_reply_contents(const uint8_t *reply, size_t *length) {
+    uint32_t code = lp_reply_code(reply);
+    size_t at = lp_reply_field(reply, length) + *length + 1;
+    *length = 0;
+    if (code != LP_CODE_FIELD_FORMAT && code != LP_CODE_FIELD_VALUE) return 0;
+    for (size_t end = at; end < LP_AT_RECEIPT; end++)
+        if (reply[end] != ' ') *length = end + 1 - at;
+    return at;
 }
 
 /* A refusal in a few words. */

@@ -149,18 +149,35 @@ static void sample(void) {
     hex(replies[4], LP_AT_NEW_KEY);
 }
 
+/* A reply names a field and shows what was received in it, NULL where it shows none. */
+static void tells(const uint8_t *reply, const char *name, const char *contents) {
+    size_t length, at = lp_reply_field(reply, &length);
+    hold(at && length == strlen(name) && !memcmp(reply + at, name, length), name);
+    at = lp_reply_contents(reply, &length);
+    hold(contents ? at && length == strlen(contents) && !memcmp(reply + at, contents, length) : !at && !length, "what was received in it");
+}
+
 /* Where the notice names a field. */
 static void names(void) {
     char text[4 * 256];
+    size_t length;
     receive("HELLO");
     hold(count == 1 && lp_reply_code(replies[0]) == LP_CODE_FIELD_FORMAT, "1010 for HELLO");
-    field(replies[0], LP_AT_NAME_1010, LP_AT_NOTICE + LP_WIDTH_NOTICE - LP_AT_NAME_1010, "SANOMATUNNUS");
+    field(replies[0], LP_AT_NAME_1010, LP_AT_NOTICE + LP_WIDTH_NOTICE - LP_AT_NAME_1010, "SANOMATUNNUS HELLO");
+    tells(replies[0], "SANOMATUNNUS", "HELLO");
+    receive("\xC4 H\x7F\n");
+    tells(replies[0], "SANOMATUNNUS", "? H?");
+    receive("\n");
+    tells(replies[0], "SANOMATUNNUS", "");
     receive(strcat(strcpy(text, lines[0]), lines[0]));
     hold(count == 2 && lp_reply_code(replies[1]) == LP_CODE_FIELD_VALUE, "1011 for a later ESI");
-    field(replies[1], LP_AT_NAME_1011, LP_AT_NOTICE + LP_WIDTH_NOTICE - LP_AT_NAME_1011, "SANOMATUNNUS");
+    field(replies[1], LP_AT_NAME_1011, LP_AT_NOTICE + LP_WIDTH_NOTICE - LP_AT_NAME_1011, "SANOMATUNNUS >>ESI");
+    tells(replies[1], "SANOMATUNNUS", ">>ESI");
+    hold(!lp_reply_field(replies[0], &length) && !length && !lp_reply_contents(replies[0], &length) && !length, "an accepted message names no field");
     receive(strcat(strcat(strcpy(text, lines[0]), lines[1]), lines[8]));
     hold(count == 2 && lp_reply_code(replies[1]) == LP_CODE_SUO_AND_VAR_DIFFER, "1026 for another batch's VAR");
     field(replies[1], LP_AT_NAME_1026, strlen("KERTA-AVAIN:"), "KERTA-AVAIN:");
+    tells(replies[1], "KERTA-AVAIN", NULL);
 }
 
 /* The last reply to a file has the code; the next file comes from the sample's customer on the sample's day. */

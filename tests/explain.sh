@@ -46,9 +46,16 @@ for message in "ESI 1 22" "SUO 10 19" "VAR 13 22"; do
             *) text="field $name of the $kind in line $line, \"$contents\"" ;;
             esac
             grep -E "^$code  $about, byte [0-9]+: " out | grep -qF -- "$text" || fail "$kind, $name, $c: expected '$code  $about … $text'"
-            # explain tells the same field by the notice
+            # the notice names it and shows the same, and so does explain, by the notice alone
             lentilpot explain r >explained 2>told && fail "$kind, $name: explain's status"
-            grep -F "$code" explained | grep -qF -- "$name" || fail "$kind, $name: explain names another field"
+            grep -A 1 -F "$code" explained | tr -s ' \n' ' ' >joined
+            case $code in "E 1010") notice="MUOTOVIRHE KENTÄSSÄ" why="a field's format" ;; *) notice="ARVOVIRHE KENTÄSSÄ" why="a field's value" ;; esac
+            grep -qF -- "$code $notice $name $contents" joined || fail "$kind, $name: expected '$notice $name $contents'"
+            case "$kind $name" in
+            "ESI SANOMATUNNUS") text="the file doesn't begin with an ESI but with \"$contents\". " ;;
+            *) text="$why: field $name, \"$contents\" (a ? " ;;
+            esac
+            grep -qF -- "$text" joined || fail "$kind, $name: expected '$text' of explain"
             echo "$kind $name $code" >>seen
         done
     done
@@ -167,6 +174,42 @@ reply_of() { # CODE: the first reply with that code, alone
     tr -s ' \n' ' ' <out >joined
 }
 says() { grep -qF -- "$1" joined || fail "explain: expected '$1'"; }
+
+# the contents in the notice: what isn't shown, what isn't there, and what is told of it
+notice() { # FILE NOTICE AT_HAND BY_NOTICE
+    explained "$3" "$1"
+    reply_of "101[01]"
+    says "$2"
+    says "$4"
+}
+printf 'H\303\204\nREST\n' >file
+notice file 'MUOTOVIRHE KENTÄSSÄ SANOMATUNNUS H??' 'begin with an ESI but with "H??"' 'begin with an ESI but with "H??". Mend the sending program'
+printf '\n' >file
+notice file 'MUOTOVIRHE KENTÄSSÄ SANOMATUNNUS' 'begin with an ESI but with ""' "begin with an ESI but with blanks (or contents that earlier releases didn't show)."
+{ head -n 1 "$root/samples/good.txt"; cat "$root/samples/good.txt"; } >file
+notice file 'ARVOVIRHE KENTÄSSÄ SANOMATUNNUS >>ESI' 'field SANOMATUNNUS of the ESI in line 2, ">>ESI": an ESI stands at a file'"'"'s beginning alone' \
+    "a field's value: a second ESI stands in the file, as where two files were joined. Mend"
+sed '1s/$/ x/' "$root/samples/good.txt" >file
+notice file 'MUOTOVIRHE KENTÄSSÄ SANOMAPITUUS 161' 'field SANOMAPITUUS of the ESI in line 1, "161": more than blanks follows the message in its last record' \
+    'field SANOMAPITUUS, "161": more than blanks follows the message in its last record. Mend'
+sed '1s/^\(>>ESI\)161/\11 1/' "$root/samples/good.txt" >file
+notice file 'MUOTOVIRHE KENTÄSSÄ SANOMAPITUUS 1 1' 'field SANOMAPITUUS of the ESI in line 1, "1 1"' "field's format: field SANOMAPITUUS, \"1 1\" (a ? may stand for"
+sed '1s/^\(.\{16\}\).\{16\}/\1                /' "$root/samples/good.txt" >file
+notice file 'ARVOVIRHE KENTÄSSÄ OHJELMISTO' 'field OHJELMISTO of the ESI in line 1, "                "' 'field OHJELMISTO, blanks (or'
+# the SUO's fault is shown though the VAR's field is sound, and the other way round
+sed '10s/^\(.\{87\}\)....../\1940230/' "$root/samples/good.txt" >file
+explained 'field PÄIVÄYS of the SUO in line 10, "940230"' file
+reply_of 1011
+says 'ARVOVIRHE KENTÄSSÄ PÄIVÄYS 940230'
+sed '13s/^\(.\{87\}\)....../\1940230/' "$root/samples/good.txt" >file
+explained 'field PÄIVÄYS of the VAR in line 13, "940230"' file
+reply_of 1011
+says 'ARVOVIRHE KENTÄSSÄ PÄIVÄYS 940230'
+# a notice that names no field of ours
+LC_ALL=C sed 's/P.IV.YS 940230/NIMI    940230/' r >r2
+mv r2 r
+reply_of 1011
+says "a field's value: field that the notice names, as shown there"
 sed '1s/^\(.\{85\}\)00/\105/' "$root/samples/good.txt" >file
 explained 'E 1014' file
 reply_of 1014

@@ -2,6 +2,7 @@
 use crate::heard::Heard;
 use crate::parts::code_of;
 use crate::parts::key_of;
+use cli_texts::room::trimmed;
 use cli_texts::sheet;
 use cli_texts::sheet::Sheet;
 
@@ -112,11 +113,10 @@ fn end_of(i: usize) -> usize {
     ENDS[i]
 }
 
-// Whether a reply's notice, past its clock time, is that of a code on a field: after the text comes a blank, and perhaps the field's
-// contents.
+// Whether a reply's notice, past its clock time, is that of a code on a field: after the name comes a blank.
 fn is_notice(r: [u8; 237], code: u32, field: u32) -> bool {
     let text = notice::text(code, field, message::no_contents());
-    let n = cli_texts::room::trimmed(&text);
+    let n = trimmed(&text);
     if 50 < n {
         return false;
     }
@@ -154,48 +154,101 @@ fn name_of(i: usize) -> [u8; 237] {
     out
 }
 
-// Of a first record that is no ESI's only as many characters are there as came.
-fn end_there(i: usize, count: usize) -> usize {
-    let end = end_of(i);
-    if i == 0 {
-        if count < end {
-            return count;
-        }
-    }
-    end
+// ---- the contents that a notice of 1010 or 1011 shows
+
+// How long a code's text with a field's name is, without the field's contents.
+fn name_end(code: u32, field: u32) -> usize {
+    trimmed(&notice::text(code, field, message::no_contents()))
 }
 
-// Name and contents, in the message that a fault of form is of, in the SUO and in the VAR.
-pub fn with_field(before: Sheet, h: Heard, i: usize) -> Sheet {
+// Where they begin: past the code's text, the field's name and a blank.
+fn value_start(r: [u8; 237], i: usize) -> usize {
+    let mut n = name_end(1011, number_of(i));
+    if is_format(r) {
+        n = name_end(1010, number_of(i));
+    }
+    std::num::wrapping_add_usize(n, 187)
+}
+
+fn is_format(r: [u8; 237]) -> bool {
+    code_of(r) == 1010
+}
+
+fn value_end(r: [u8; 237], i: usize) -> usize {
+    let width = std::num::wrapping_sub_usize(end_of(i), start_of(i));
+    std::num::wrapping_add_usize(value_start(r, i), width)
+}
+
+// In quotes. Field 1 is that of a record, which may have fewer characters.
+fn with_value(before: Sheet, r: [u8; 237], i: usize) -> Sheet {
+    let from = value_start(r, i);
+    let to = value_end(r, i);
+    if i == 0 {
+        return sheet::with_name(before, b'h', r, from, to);
+    }
+    sheet::with_quoted(before, b'h', r, from, to)
+}
+
+fn is_blank(r: [u8; 237], from: usize) -> bool {
+    if 237 < from {
+        return true;
+    }
+    text::all_blank(&r[from..])
+}
+
+fn is_digits(r: [u8; 237], from: usize) -> bool {
+    if 234 < from {
+        return false;
+    }
+    let to = from + 3;
+    text::all_digits(&r[from..to])
+}
+
+// ---- what is told of it
+
+// Name and contents by the reply alone. A reply of a release that showed no contents looks like one on a blank field.
+pub fn with_named(before: Sheet, r: [u8; 237], i: usize) -> Sheet {
+    if 25 <= i {
+        let unknown = sheet::with_words(before, b'f', b"that the notice names");
+        return sheet::with_words(unknown, b'h', b"as shown there");
+    }
+    let s = sheet::with_part(before, b'f', name_of(i), 0, 15, true);
+    if is_blank(r, value_start(r, i)) {
+        return sheet::with_words(
+            s,
+            b'h',
+            b"blanks (or contents that earlier releases didn't show)",
+        );
+    }
+    with_value(s, r, i)
+}
+
+// Name and contents, the kind of the message that a fault of form is of, and what stands in the SUO and in the VAR.
+pub fn with_field(before: Sheet, h: Heard, r: [u8; 237], i: usize) -> Sheet {
     let faulty = h.faulty;
     let suo = h.answered;
     let var = h.closing;
     let from = start_of(i);
-    let to = end_there(i, h.count);
+    let to = end_of(i);
     let mut s = sheet::with_part(before, b'k', faulty, 2, 5, false);
     s = sheet::with_part(s, b'f', name_of(i), 0, 15, true);
-    s = sheet::with_quoted(s, b'h', faulty, from, to);
+    s = with_value(s, r, i);
     s = sheet::with_quoted(s, b'u', suo, from, to);
     sheet::with_quoted(s, b'v', var, from, to)
 }
 
-fn is_length_digits(m: [u8; 237]) -> bool {
-    text::all_digits(&m[5..8])
-}
-
-// The text for a reply whose messages are at hand: 1010 and 1011 have reasons of their own in field 1, and where field 2 is digits the
-// fault of its format is what follows the message.
-pub fn key_at_hand(r: [u8; 237], m: [u8; 237], i: usize) -> u64 {
-    let is_format = code_of(r) == 1010;
+// The text for a reply: 1010 and 1011 have reasons of their own in field 1, and where the length is digits the fault of its format is what
+// follows the message.
+pub fn key_on(r: [u8; 237], i: usize) -> u64 {
     if i == 0 {
-        if is_format {
+        if is_format(r) {
             return cli_texts::NO_ESI;
         }
         return cli_texts::LATER_ESI;
     }
     if i == 1 {
-        if is_format {
-            if is_length_digits(m) {
+        if is_format(r) {
+            if is_digits(r, value_start(r, i)) {
                 return cli_texts::OVER;
             }
         }

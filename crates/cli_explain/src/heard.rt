@@ -2,14 +2,12 @@
 use crate::Settled;
 
 // The message that a fault of form is of, and the line where it begins; the one that is answered, an ESI or a SUO; the one that closes a
-// frame; how many characters came of the record or message on its way. A message stands in as much room as a reply, so that both are read
-// by the same functions.
+// frame. A message stands in as much room as a reply, so that both are read by the same functions.
 pub struct Heard {
     pub faulty: [u8; 237],
     pub line: u64,
     pub answered: [u8; 237],
     pub closing: [u8; 237],
-    pub count: usize,
 }
 
 fn is_in_frame(place: session::Place) -> bool {
@@ -84,6 +82,5 @@ pub fn heard_of(s: session::Session, is_esi: bool, at: Settled) -> Heard {
         line,
         answered,
         closing,
-        count: gathered.count,
     }
 }

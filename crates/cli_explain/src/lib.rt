@@ -158,7 +158,7 @@ fn told_sheet(
     s = sheet::with_number(s, b'K', at.var);
     s = sheet::with_part(s, b't', m, 85, 86, false);
     s = sheet::with_part(s, b'w', m, 86, 87, false);
-    fields::with_field(s, h, i)
+    fields::with_field(s, h, r, i)
 }
 
 fn sender_of(m: [u8; 237]) -> [u8; 25] {
@@ -187,7 +187,6 @@ fn told_line(
 ) -> Line {
     let h = heard::heard_of(before, parts::is_esi(r), at);
     let m = h.answered;
-    let faulty = h.faulty;
     let sender = before.sender;
     let opening = before.opening;
     let who = sender_of(m);
@@ -197,7 +196,7 @@ fn told_line(
     let mut l = with_text(cli_texts::no_line(), s, cli_texts::BEGINNING);
     l = with_text(l, s, parts::about_of(r));
     l = with_text(l, s, place_key(r, at));
-    l = with_text(l, s, facts::key_of(f, r, fields::key_at_hand(r, faulty, i)));
+    l = with_text(l, s, facts::key_of(f, r, fields::key_on(r, i)));
     l = generations::with_held(l, s, t, who, code_of(r));
     l = with_customer(l, s, r, m);
     with_text(l, s, cli_texts::END)
@@ -236,13 +235,14 @@ fn with_answered(l: Line, s: Sheet, r: [u8; 237]) -> Line {
 
 fn is_told(fd: i32, r: [u8; 237], c: Count) -> bool {
     let before = std::num::wrapping_add_u64(c.accepted, c.refused);
-    let mut s = parts::sheet_of(r, c.batches, r, 35);
+    let i = fields::named_in(r);
+    let mut s = fields::with_named(parts::sheet_of(r, c.batches, r, 35), r, i);
     s = sheet::with_number(s, b'o', std::num::wrapping_add_u64(before, 1));
     let mut l = with_text(cli_texts::no_line(), s, cli_texts::NUMBER);
     l = with_text(l, s, parts::about_of(r));
     l = with_text(l, s, cli_texts::NOTICE);
     l = with_answered(l, s, r);
-    l = with_advice(l, s, parts::key_of(r));
+    l = with_advice(l, s, fields::key_on(r, i));
     l = with_text(l, s, cli_texts::END);
     cli_texts::is_written(fd, l)
 }

@@ -371,8 +371,10 @@ message is accepted (E 1034) before some are.
 
 Says in words what the replies in a file tell.
 Beside each reply: what it is about, its notice, customer and stamp, and what
-to tell the caller. At the end how many were accepted and how many refused; the
-exit status is 1 where some were.
+to tell the caller. Where a field is at fault (E 1010, E 1011) that is its name
+and what was received in it; '?' there may stand for a character that can't be
+shown. At the end how many were accepted and how many refused; the exit status
+is 1 where some were.
 
   REPLIES       the file of replies; for receive the name of a new one
                 One reply and an LF each, in Latin-1: 237 characters for an
@@ -470,5 +472,5 @@ Exit status  0  served, and every reply is K
 }
 
 pub fn version() -> bool {
-    say::out(b"lentilpot 1.0\n")
+    say::out(b"lentilpot 1.1\n")
 }

@@ -229,10 +229,10 @@ fn with_key(l: Line, sheet: Sheet, key: u64, is_at_hand: bool) -> Line {
 1005 accepted; no new key, since a changeover still runs||: ask again when it is past
 1036 accepted; the changeover was ended||: use the current key only
 1037 accepted; no changeover was ended: none runs, or the message itself used the previous key||: use the current key
-1010 a field's format: |field ~f of the ~k in line ~J, ~h|the notice names the field (SANOMATUNNUS: the file doesn't begin with an ESI). \
+1010 a field's format: |field ~f of the ~k in line ~J, ~h|field ~f, ~h (a ? may stand for what can't be shown). \
 Mend the sending program and send anew
-1011 a field's value: |field ~f of the ~k in line ~J, ~h|the notice names the field (SANOMATUNNUS: a second ESI stands in the file, \
-as where two files were joined). Mend the sending program and send anew
+1011 a field's value: |field ~f of the ~k in line ~J, ~h|field ~f, ~h (a ? may stand for what can't be shown). \
+Mend the sending program and send anew
 1012 the version is below the bank's floor|: it is ~A, the floor is ~B|: renew the sending program
 1013 the transport key of that generation isn't valid on the stamp's date|: names transport key ~t|: \
 make the file anew with the current key (the previous one is good for stamps from the new one's first day to the changeover's last, and \
@@ -262,9 +262,11 @@ after them), and put more payments into a batch
 1035 the customer is known and has not agreed on PATU||: make the agreement first
 2003 accepted; a new working key is enclosed: generation ~z||
 2004 accepted; the current working key is enclosed, since the previous one was used: generation ~z||
-2010 the file doesn't begin with an ESI but with ~h||
-2011 a field's value: field ~f of the ~k in line ~J, ~h: an ESI stands at a file's beginning alone||
-2012 a field's format: field ~f of the ~k in line ~J, ~h: more than blanks follows the message in its last record||
+2010 the file doesn't begin with an ESI but with ~h||. Mend the sending program and send anew
+2011 a field's value: |field ~f of the ~k in line ~J, ~h: an ESI stands at a file's beginning alone|a second ESI stands in the file, \
+as where two files were joined. Mend the sending program and send anew
+2012 a field's format: |field ~f of the ~k in line ~J, ~h: more than blanks follows the message in its last record|field ~f, ~h: \
+more than blanks follows the message in its last record. Mend the sending program and send anew
 2034 the file is too large|: more than 4,294,967,295 bytes|: send it as several files
 3001 ~c ~d  ||
 3002 , line ~l, byte ~b: ||

@@ -51,6 +51,12 @@ pub fn with_date(sheet: Sheet, letter: u8, d: calendar::Date) -> Sheet {
     Sheet { text }
 }
 
+pub fn with_words(sheet: Sheet, letter: u8, words: &[u8]) -> Sheet {
+    let mut text = sheet.text;
+    put_all(&mut text, place_of(letter), words, false);
+    Sheet { text }
+}
+
 // Characters of a reply or a message as they stand; letters past ASCII are shown where they are asked for.
 pub fn with_part(
     sheet: Sheet,

@@ -1,8 +1,9 @@
--- Laws of lists: members, tests and facts of each element, lists told apart, and one list laid over another.
+-- Laws of lists: members, tests and facts of each element, lists told apart, one list laid over another, and one made of another element by
+-- element.
 -- Assumes nothing.
 use mathlib.Core.Path.{_≡_, refl, sym, ap, _∙_}
 use mathlib.Core.Bool.{Bool, true, false}
-use mathlib.Core.List.{List, [], _∷_, _++_, append-nil}
+use mathlib.Core.List.{List, [], _∷_, _++_, append-nil, map}
 use mathlib.Core.Logic.{⊎-elim}
 use Prim.Native.Nat.{ℕ, zero, suc, _+_, _≤_, _<_}
 use native.Mathlib.Nat.{not-suc-le-zero, le-of-suc-le-suc, le-refl}
@@ -11,8 +12,8 @@ use native.Mathlib.Omega.{arith}
 use borrow.Author.Count.{below-more}
 use borrow.Author.Tests.{eq-eqb, eqb-true, ltb-true}
 use lib.Dec.{eqb, ltb}
-use lib.ListN.{length, take, drop, getD, set, replicate, length-append, length-take, length-drop, drop-of-length-le}
-use lib.Seq.{drop-cons, getD-take, take-all, length-take-le, getD-set-same, getD-set-other}
+use lib.ListN.{length, take, drop, getD, set, replicate, length-append, length-take, length-drop, length-map, drop-of-length-le}
+use lib.Seq.{drop-cons, getD-take, take-all, length-take-le, getD-set-same, getD-set-other, ext-getD}
 use Rattle.ground.specs.Choice.{both, either, pick}
 use Rattle.ground.specs.Lists.{all, member, same, overlay, Each}
 use Rattle.ground.proofs.Choices.{left, right, join, fails-left, decides, either-left, either-right, either-cases}
@@ -254,3 +255,21 @@ pub length-pick : (b : Bool) (s k : ℕ) (ss ks : List ℕ) → length ss ≡ le
 unfolding pick
 length-pick true s k ss ks e = e
 length-pick false s k ss ks e = ap suc e
+
+-- ---- element by element
+
+getD-map-in : (f : ℕ → ℕ) (l : List ℕ) (k : ℕ) → k < length l → getD (map f l) k 0 ≡ f (getD l k 0)
+getD-map-in f [] k h = absurd (omega arith)
+getD-map-in f (x ∷ l) zero h = refl
+getD-map-in f (x ∷ l) (suc k) h = getD-map-in f l k (omega arith)
+
+pub mapped : (f : ℕ → ℕ) (l out : List ℕ) → length out ≡ length l → ((k : ℕ) → k < length l → getD out k 0 ≡ f (getD l k 0))
+    → out ≡ map f l
+mapped f l out e all =
+    ext-getD 0 out (map f l) (e ∙ sym (length-map l f))
+    (λ k b. let c : k < length l = omega arith in all k c ∙ sym (getD-map-in f l k c))
+
+pub map-take : (f : ℕ → ℕ) (n : ℕ) (l : List ℕ) → take n (map f l) ≡ map f (take n l)
+map-take f zero l = refl
+map-take f (suc n) [] = refl
+map-take f (suc n) (x ∷ l) = ap (λ (r : List ℕ). f x ∷ r) (map-take f n l)

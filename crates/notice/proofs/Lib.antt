@@ -3,4 +3,3 @@ pub mod Found
 pub mod Padding
 pub mod Rows
 pub mod Texts
-pub mod Mapped

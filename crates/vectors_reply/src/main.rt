@@ -27,14 +27,22 @@ fn show(a: Answering, size: usize) {
     say(b"\n");
 }
 
+// What stands in the fields of the message that is answered.
+const MESSAGE: [u8; 161] =
+    *b">>SUO128120 0000SOFTWARE 1      SKH003701234567     BANKQUALCUSTOMER-1       BRANCH 112930415101530002S         0123456789ABCDEF                                 ";
+
 // Bank, software and time of document 01.
-fn answering(pte: bool, bare: bool, code: u32, field: u32, keys: [Key; 3]) -> Answering {
+fn answering_with(
+    pte: bool,
+    bare: bool,
+    code: u32,
+    field: u32,
+    contents: message::Contents,
+    keys: [Key; 3],
+) -> Answering {
     let working = keys[0];
     let transport = keys[1];
     let enclosed = keys[2];
-    let message =
-        *b">>SUO128120 0000SOFTWARE 1      SKH003701234567     BANKQUALCUSTOMER-1       BRANCH 112930415101530002S         0123456789ABCDEF                                 ";
-    let contents = message::field_contents(field, message, 161);
     Answering {
         pte,
         bare,
@@ -44,12 +52,17 @@ fn answering(pte: bool, bare: bool, code: u32, field: u32, keys: [Key; 3]) -> An
         time: 91500,
         bank: *b"003701234567             ",
         software: *b"FRONT 4         ",
-        message,
+        message: MESSAGE,
         closing: *b">>VAR161120 0000SOFTWARE 1      SMH003701234567     BANKQUALCUSTOMER-1       BRANCH 112930415101530003A         0123456789ABCDEFFEDCBA987654321000112233445566771",
         working,
         transport,
         enclosed,
     }
+}
+
+fn answering(pte: bool, bare: bool, code: u32, field: u32, keys: [Key; 3]) -> Answering {
+    let contents = message::field_contents(field, MESSAGE, 161);
+    answering_with(pte, bare, code, field, contents, keys)
 }
 
 fn no_keys() -> [Key; 3] {
@@ -68,8 +81,15 @@ fn keyed(pte: bool, bare: bool, code: u32, field: u32, size: usize) {
     show(answering(pte, bare, code, field, keys()), size);
 }
 
-fn unkeyed() {
-    show(answering(false, true, 1010, 10, no_keys()), 320);
+// Document 01's whole reply: the file is HELLO.
+fn show_hello() {
+    let mut hello = [0u8; 161];
+    text::copy(&mut hello, b"HELLO");
+    let contents = message::field_contents(10, hello, 5);
+    show(
+        answering_with(false, true, 1010, 10, contents, no_keys()),
+        320,
+    );
 }
 
 // A code, full or bare as it is, once as an ESI and once as a PTE.
@@ -232,7 +252,7 @@ fn show_pte() {
 }
 
 fn main() {
-    unkeyed();
+    show_hello();
     show_codes();
     show_notices(1010);
     show_notices(1011);

@@ -137,10 +137,10 @@ pub mod at {
     pub const RECEIPT: Range<usize> = 237..317;
     /// Within the notice: the code's text.
     pub const TEXT: Range<usize> = 186..237;
-    /// Where the field's name begins in a notice of 1010; it ends before a blank or colon.
+    /// Where the field's name begins in a notice of 1010; it ends before a blank, and the field as received follows.
     pub const NAME_1010: usize = 206;
-    /// Where the field's name begins in a notice of 1011; it ends before a blank or colon.
+    /// Where the field's name begins in a notice of 1011; it ends before a blank, and the field as received follows.
     pub const NAME_1011: usize = 205;
-    /// Where the field's name begins in a notice of 1026; it ends before a blank or colon.
+    /// Where the field's name begins in a notice of 1026; it ends before a colon.
     pub const NAME_1026: usize = 193;
 }

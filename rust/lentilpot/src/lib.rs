@@ -54,7 +54,7 @@ use std::fmt;
 use std::io::{self, Read};
 
 /// The version of these functions and constants: LP_VERSION of the C header.
-pub const VERSION: &str = "1.0";
+pub const VERSION: &str = "1.1";
 /// The bytes of a table.
 pub const TABLE_SIZE: usize = 49_152;
 /// The longest reply, and the least room that a call asks for one.
@@ -207,6 +207,28 @@ impl Reply {
     /// Whether the message or batch is accepted: K, and not E.
     pub fn is_accepted(&self) -> bool {
         self.room[at::VERDICT] == *b"K"
+    }
+
+    /// The name of the field that the notice tells (1010, 1011, 1026), in Latin-1.
+    pub fn field(&self) -> Option<&[u8]> {
+        let at = match self.code() {
+            code::FIELD_FORMAT => at::NAME_1010,
+            code::FIELD_VALUE => at::NAME_1011,
+            code::SUO_AND_VAR_DIFFER => at::NAME_1026,
+            _ => return None,
+        };
+        self.room[at..at::NOTICE.end].split(|&b| b == b' ' || b == b':').next()
+    }
+
+    /// What was received in that field (1010, 1011), without the blanks at its end; a byte outside 20 to 7E hex is `?`.
+    pub fn contents(&self) -> Option<&[u8]> {
+        let at = match self.code() {
+            code::FIELD_FORMAT => at::NAME_1010,
+            code::FIELD_VALUE => at::NAME_1011,
+            _ => return None,
+        };
+        let shown = self.room[at..at::NOTICE.end].get(self.field()?.len() + 1..)?;
+        Some(shown.trim_ascii_end())
     }
 }
 

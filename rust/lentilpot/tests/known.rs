@@ -171,10 +171,11 @@ fn the_one_whole_reply() {
     whole.extend([b' '; 25]);
     whole.extend(b"003701234567             00000000000000000");
     whole.extend([b' '; 58]);
-    whole.extend(b"0                09:15:00 MUOTOVIRHE KENT\xC4SS\xC4 SANOMATUNNUS                   ");
+    whole.extend(b"0                09:15:00 MUOTOVIRHE KENT\xC4SS\xC4 SANOMATUNNUS HELLO             ");
     assert_eq!(replies.len(), 1);
     assert_eq!(replies[0].as_bytes(), whole);
     assert_eq!((replies[0].code(), replies[0].is_accepted(), replies[0].to_string()), (1010, false, "E 1010".into()));
+    assert_eq!((replies[0].field(), replies[0].contents()), (Some(&b"SANOMATUNNUS"[..]), Some(&b"HELLO"[..])));
 }
 
 /// Where the fields stand, in both kinds of reply; tests/box.c looks at each of them through the header's numbers.
@@ -198,7 +199,9 @@ fn the_fields_of_a_reply() {
     assert!(esi[at::NOTICE].starts_with(b"09:15:00 HYV\xC4KSYTTY ") && esi[at::TEXT].starts_with(b"HYV"));
     let last = replies[2].as_bytes();
     assert_eq!(replies[2].code(), code::FIELD_VALUE);
-    assert!(last[at::NAME_1011..].starts_with(b"SANOMATUNNUS "));
+    assert!(last[at::NAME_1011..].starts_with(b"SANOMATUNNUS >>ESI "));
+    assert_eq!((replies[2].field(), replies[2].contents()), (Some(&b"SANOMATUNNUS"[..]), Some(&b">>ESI"[..])));
+    assert_eq!((replies[0].field(), replies[0].contents(), replies[1].contents()), (None, None, None));
     assert_eq!(number(Table::new().open(&OPENING)), refused::NO_TABLE);
 }
 

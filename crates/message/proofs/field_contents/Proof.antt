@@ -6,8 +6,8 @@ use native.Mathlib.Omega.{arith}
 use borrow.Author.Tests.{ne-eqb}
 use lib.Dec.{eqb}
 use lib.ListN.{length, take, length-take}
-use lib.Seq.{length-take-le, take-all}
-use Rattle.ground.proofs.Parts.{take-least}
+use lib.Seq.{length-take-le}
+use Rattle.ground.proofs.Parts.{take-kept, kept-length}
 use Rattle.message.specs.Layout.{fieldText}
 use Rattle.message.specs.Contents.{contentsAs}
 use Rattle.message.proofs.Places.{numberAt, Past, past-start, past-more, none-past, placed}
@@ -26,8 +26,7 @@ sized c = search needs
 
 -- the first characters, as many as there are of them
 kept : (n count : ℕ) (m : List ℕ) → n ≡ min count 161 → length m ≡ 161 → take n m ≡ take count m
-kept n count m e h =
-    ap (λ (k : ℕ). take k m) e ∙ sym (take-least count 161 m) ∙ ap (take count) (take-all 161 m (omega arith))
+kept n count m e h = ap (λ (k : ℕ). take k m) (e ∙ sym (kept-length count 161 m h)) ∙ take-kept count m
 
 loop-holds : tie.Need-loop-holds Inv-loop μ-loop
 loop-holds c = (omega arith, past-start _)

@@ -3,9 +3,8 @@ use mathlib.Core.Path.{_≡_, refl, sym, _∙_}
 use Prim.Native.Nat.{ℕ, _≤_, _<_, _-_}
 use native.Mathlib.Omega.{arith}
 use lib.ListN.{length, getD, length-set}
-use Rattle.ground.proofs.Lists.{filled-more}
+use Rattle.ground.proofs.Lists.{filled-more, mapped}
 use Rattle.notice.specs.Codes.{shownByte}
-use Rattle.notice.proofs.Mapped.{mapped}
 use borrow.Author.Needs.{needs}
 use Rattle.notice.proofs.shown.Statement.{statement}
 use Rattle.notice.proofs.shown.Tie as tie

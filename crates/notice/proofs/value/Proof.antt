@@ -4,13 +4,13 @@ use mathlib.Core.List.{List, map}
 use Prim.Native.Nat.{ℕ, _≤_}
 use native.Mathlib.Omega.{arith}
 use lib.ListN.{length, take, replicate}
+use Rattle.ground.proofs.Lists.{map-take}
 use Rattle.ground.proofs.Parts.{part-start, kept-length, take-kept}
 use Rattle.text.specs.Characters.{blank, padded}
 use Rattle.text.specs.Letters.{letters}
 use Rattle.message.specs.Contents.{heldIn}
 use Rattle.notice.specs.Codes.{shownByte, valueText}
 use Rattle.notice.proofs.Padding.{join-filled}
-use Rattle.notice.proofs.Mapped.{map-take}
 use borrow.Author.Needs.{needs}
 use Rattle.notice.proofs.value.Statement.{statement}
 use Rattle.notice.proofs.value.Tie as tie

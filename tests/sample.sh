@@ -1,0 +1,10 @@
+#!/bin/bash
+# The sample bank: each listing, what the table holds at the end and what a refused file's sender is told are as samples/expected/ has them.
+set -eu
+root=$(cd "$(dirname "$0")/.." && pwd -P)
+program=${PROGRAM:-$root/target/program/lentilpot}
+work=$(mktemp -d)
+trap 'rm -rf "$work"' EXIT
+sh "$root/samples/run" "$program" >"$work/out" 2>&1 || { cat "$work/out" >&2; exit 1; }
+[ "$(tail -n 1 "$work/out")" = "All replies are as expected." ] || { cat "$work/out" >&2; exit 1; }
+echo "tests/sample: ok"
