@@ -25,7 +25,7 @@ use Rattle.calls.specs.Calls.{reading, ending, refusalOf, shownBy}
 use Rattle.law_history.specs.History.{isK, readingCodes}
 use Rattle.law_history.proofs.Sessions.{Of}
 use Rattle.law_history.proofs.Codes.{isAccepted, reading-e, grants-k, esi-e, frame-e}
-use Rattle.law_history.proofs.Turns.{Turned, quiet, bare, esi, var}
+use Rattle.law_history.proofs.Turns.{OnTag, Turned, quiet, bare, esi, var}
 use Rattle.law_history.proofs.Effects.{Sized, Effect, unsaid, refused, taken, effect}
 use Rattle.law_history.proofs.Shown.{shows-none, shows-reply, says-e}
 use Rattle.law_history.proofs.Hearing.{Asked, OneTurn, read-refused, read-turns, end-refused, end-turns}
@@ -36,7 +36,7 @@ use Rattle.law_demands.proofs.Accepted.{verdict-of}
 
 -- ---- the turn's reply is shown whole
 
-sized : (w : List ℕ) (x : Turn) → Effect w x → x .out .reply .given ≡ true → Sized (x .out .reply .answer)
+pub sized : (w : List ℕ) (x : Turn) → Effect w x → x .out .reply .given ≡ true → Sized (x .out .reply .answer)
 sized w x (unsaid g e) h = absurd (false≢true (sym g ∙ h))
 sized w x (refused g l c e) h = l
 sized w x (taken g l c f i t) h = l
@@ -46,7 +46,7 @@ module _ (o : Opening) (made : ℕ) (b room : List ℕ) (h : 317 ≤ length room
   abbrev after : Turn → Done
   after x = servedBy x u n finished room
 
-  shown-is : (x : Turn) → Turned o made b x → x .out .reply .given ≡ true → shownBy (after x) ≡ replyOf (x .out .reply .answer) ∷ []
+  pub shown-is : (x : Turn) → Turned o made b x → x .out .reply .given ≡ true → shownBy (after x) ≡ replyOf (x .out .reply .answer) ∷ []
   shown-is x t g = shows-reply x u n finished room g (sized b x (effect o made b x i d t) g) h
 
   -- ---- each kind of turn
@@ -60,11 +60,11 @@ module _ (o : Opening) (made : ℕ) (b room : List ℕ) (h : 317 ≤ length room
     at {k} p =
         subst (λ (q : Opening). Shows q made b k) (a .opening) (subst (λ (m : ℕ). Shows (s .opening) m b k) (a .keys) p)
 
-    bare-shows : (pte : Bool) (code field : ℕ) (chars : List ℕ) (v : Session) → member code readingCodes ≡ true
+    bare-shows : (pte : Bool) (code field : ℕ) (chars : List ℕ) (v : Session) → member code readingCodes ≡ true → OnTag code field
         → Shows (s .opening) (s .made) b (after (bareTurn s b pte code field chars v))
     unfolding bareTurn replies servedBy bareAnswer
-    bare-shows pte code field chars v m =
-        shows-bare pte code field chars m (shown-is (bareTurn s b pte code field chars v) (bare s pte code field chars v a m refl) refl)
+    bare-shows pte code field chars v m t =
+        shows-bare pte code field chars m (shown-is (bareTurn s b pte code field chars v) (bare s pte code field chars v a m t refl) refl)
         (says-e (bareAnswer (tableOf b) (s .opening) pte code field chars) (reading-e code m))
         refl
 
@@ -96,8 +96,8 @@ module _ (o : Opening) (made : ℕ) (b room : List ℕ) (h : 317 ≤ length room
 
   turn-shows : (x : Turn) → Turned o made b x → Shows o made b (after x)
   turn-shows x (quiet v a e) = subst (λ (y : Turn). Shows o made b (after y)) (sym e) (silent-shows v)
-  turn-shows x (bare s pte code field chars v a m e) =
-      subst (λ (y : Turn). Shows o made b (after y)) (sym e) (at s a (bare-shows s a pte code field chars v m))
+  turn-shows x (bare s pte code field chars v a m t e) =
+      subst (λ (y : Turn). Shows o made b (after y)) (sym e) (at s a (bare-shows s a pte code field chars v m t))
   turn-shows x (esi s m a l e) = subst (λ (y : Turn). Shows o made b (after y)) (sym e) (at s a (esi-shows s a m l))
   turn-shows x (var s m a l e) = subst (λ (y : Turn). Shows o made b (after y)) (sym e) (at s a (var-shows s a m l))
 

@@ -3,6 +3,7 @@ pub mod Refusals
 pub mod Accepted
 pub mod Values
 pub mod Judged
+pub mod Seen
 pub mod Stays
 pub mod Ranges
 pub mod Rooms

@@ -54,7 +54,7 @@ fault-bare : (code : ℕ) → isFault code ≡ true → codeIn code codes .bare 
 unfolding codeIn pick
 fault-bare = of-both (λ code. codeIn code codes .bare ≡ true) refl refl
 
-fault-refused : (code : ℕ) → isFault code ≡ true → isAccepted code ≡ false
+pub fault-refused : (code : ℕ) → isFault code ≡ true → isAccepted code ≡ false
 unfolding codeIn pick
 fault-refused = of-both (λ code. isAccepted code ≡ false) refl refl
 
@@ -68,7 +68,7 @@ text-is n v =
 joined : (a b c d e f : List ℕ) → a ++ b ++ (c ++ d ++ (e ++ f)) ≡ a ++ b ++ c ++ d ++ e ++ f
 joined a b c d e f = simp append-assoc
 
-bare-shows : (t : Table) (o : Opening) (pte : Bool) (code n : ℕ) (m : List ℕ) → isFault code ≡ true → widthIn n fields ≤ 17
+pub bare-shows : (t : Table) (o : Opening) (pte : Bool) (code n : ℕ) (m : List ℕ) → isFault code ≡ true → widthIn n fields ≤ 17
     → ShowsField (bareAnswer t o pte code n m) m
 unfolding bareAnswer noticeOf valueText
 bare-shows t o pte code n m e h =
@@ -82,16 +82,17 @@ bare-shows t o pte code n m e h =
 -- ---- a verdict's
 
 -- the fields of faults of form have at most 17 characters
-narrow : ℕ → ℕ → Bool
+pub narrow : ℕ → ℕ → Bool
 narrow code n = either (fails (isFault code)) (leb (widthIn n fields) 17)
 
-esi-narrow : (t : Table) (today : Date) (m : Collected) → eachCheck narrow (esiChecks t today m) ≡ true
-unfolding narrow eachCheck esiChecks formChecks eachField layout widthIn partyChecks stampChecks esiKeyChecks roomChecks both either fails pick
+pub esi-narrow : (t : Table) (today : Date) (m : Collected) → eachCheck narrow (esiChecks t today m) ≡ true
+unfolding narrow eachCheck esiChecks formChecks eachField layout widthIn partyChecks stampChecks esiKeyChecks roomChecks both either
+    fails pick
 esi-narrow t today m = refl
 
-frame-narrow : (t : Table) (today : Date) (kind : ℕ) (f : Frame) → eachCheck narrow (frameChecks t today kind f) ≡ true
-unfolding narrow eachCheck frameChecks formChecks eachField layout widthIn partyChecks typeChecks pairChecks stampChecks keyChecks roomChecks
-    both either fails pick
+pub frame-narrow : (t : Table) (today : Date) (kind : ℕ) (f : Frame) → eachCheck narrow (frameChecks t today kind f) ≡ true
+unfolding narrow eachCheck frameChecks formChecks eachField layout widthIn partyChecks typeChecks pairChecks stampChecks keyChecks
+    roomChecks both either fails pick
 frame-narrow t today kind f = refl
 
 narrow-is : (code n : ℕ) → isFault code ≡ true → narrow code n ≡ true → widthIn n fields ≤ 17
@@ -100,7 +101,7 @@ narrow-is code n e p = leb-true _ 17 (sym (either-decides _ _ (not-failed _ e)) 
 
 module _ (t : Table) (o : Opening) (pte : Bool) (g : Granted) (made : ℕ) (m closing : List ℕ) (cs : List Check)
     (w : eachCheck narrow cs ≡ true) where
-  found-shows : (code n : ℕ) (about : About) → firstFailing cs ≡ Found code n about → isFault code ≡ true
+  pub found-shows : (code n : ℕ) (about : About) → firstFailing cs ≡ Found code n about → isFault code ≡ true
       → ShowsField (verdictAnswer t o pte (outcomeOf (Found code n about) g made) m closing) (atFault about m closing)
   unfolding verdictAnswer outcomeOf
   found-shows code n about p e =
@@ -108,7 +109,7 @@ module _ (t : Table) (o : Opening) (pte : Bool) (g : Granted) (made : ℕ) (m cl
       (bare-shows t o pte code n (atFault about m closing) e (narrow-is code n e (first-each narrow cs code n about w p)))
 
   -- whatever the verdict is: what is granted is no fault
-  verdict-shows : (f : Fault) → firstFailing cs ≡ f → isAccepted (g .code) ≡ true → isFault (outcomeOf f g made .code) ≡ true
+  pub verdict-shows : (f : Fault) → firstFailing cs ≡ f → isAccepted (g .code) ≡ true → isFault (outcomeOf f g made .code) ≡ true
       → ((about : About) → atFault about m closing ≡ m)
       → ShowsField (verdictAnswer t o pte (outcomeOf f g made) m closing) m
   unfolding outcomeOf
@@ -121,7 +122,7 @@ found-code : (t : Table) (o : Opening) (pte : Bool) (code n : ℕ) (about : Abou
 unfolding outcomeOf
 found-code t o pte code n about g made m closing = verdict-code t o pte (outcomeOf (Found code n about) g made) m closing
 
-alone : (m : List ℕ) (about : About) → atFault about m m ≡ m
+pub alone : (m : List ℕ) (about : About) → atFault about m m ≡ m
 unfolding atFault
 alone m Answered = refl
 alone m Closing = refl
@@ -158,7 +159,8 @@ frame-fault-shown o s f m reply says e before here after order n fail =
       failed = fail;
       is = refl;
     }) in
-    let r : verdictAnswer t o true (outcomeOf (Found (here .code) (here .field) (here .about)) g (s .made)) (f .suo .text) (m .text) ≡ reply =
+    let r : verdictAnswer t o true (outcomeOf (Found (here .code) (here .field) (here .about)) g (s .made)) (f .suo .text) (m .text)
+    ≡ reply =
     ap (λ (x : Fault). verdictAnswer t o true (outcomeOf x g (s .made)) (f .suo .text) (m .text)) (sym found) ∙ one-is _ _ says in
     subst (λ (a : Answering). ShowsField a (atFault (here .about) (f .suo .text) (m .text))) r
     (found-shows t o true g (s .made) (f .suo .text) (m .text) cs (frame-narrow (s .table) (o .today) (o .kind) (frameOf f m)) (here .code)
@@ -167,7 +169,7 @@ frame-fault-shown o s f m reply says e before here after order n fail =
     ∙ ap (λ (a : Answering). a .code) r) ∙ e))
 
 -- field 1 has five characters
-tag-narrow : widthIn (field 1) fields ≤ 17
+pub tag-narrow : widthIn (field 1) fields ≤ 17
 unfolding widthIn pick
 tag-narrow = lit≤ tt
 
@@ -184,7 +186,8 @@ unfolding firstRecord outsideRecord esiSays replies
 tag-fault-shown = (
   λ o s chars reply b says.
       subst (λ (a : Answering). ShowsField a chars)
-      (one-is _ _ (sym (ap (λ (x : Step). x .says) (skips _ _ _ b)) ∙ says)) (bare-shows (s .table) o false 1010 (field 1) chars is1010 tag-narrow),
+      (one-is _ _ (sym (ap (λ (x : Step). x .says) (skips _ _ _ b)) ∙ says))
+      (bare-shows (s .table) o false 1010 (field 1) chars is1010 tag-narrow),
   λ o s told chars reply b c says.
       subst (λ (a : Answering). ShowsField a chars)
       (one-is _ _ (sym (ap (λ (x : Step). x .says) (skips _ _ _ b ∙ picks _ _ _ c)) ∙ says))

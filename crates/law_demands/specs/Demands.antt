@@ -19,7 +19,7 @@ use Rattle.ground.specs.Choice.{both, either, fails}
 use Rattle.ground.specs.Lists.{same, member}
 use Rattle.text.specs.Characters.{padded}
 use Rattle.text.specs.Letters.{letters}
-use Rattle.message.specs.Layout.{fieldText}
+use Rattle.message.specs.Layout.{field, fieldText}
 use Rattle.message.specs.Contents.{atFault}
 use Rattle.message.specs.Fields.{receiverOf}
 use Rattle.table.specs.Table.{Table, placeOf, isUnknown, customerIn, withDay}
@@ -28,7 +28,9 @@ use Rattle.table.specs.Decode.{tableOf, isTable}
 use Rattle.refusals.specs.Refusals.{Refusal, refusal, noTable}
 use Rattle.table_calls.specs.Calls.{settingUpRefusals, addingRefusals, enteringRefusals, orderingRefusals}
 use Rattle.table_calls.specs.declared.Setting.{Setting}
-use Rattle.message.specs.Order.{Check}
+use Rattle.message.specs.Order.{Check, firstFailing}
+use Rattle.message.specs.declared.About.{About}
+use Rattle.message.specs.declared.Fault.the-variants.{Found}
 use Rattle.checks.specs.Checks.{esiChecks, frameChecks}
 use Rattle.message.specs.declared.Collected.{Collected}
 use Rattle.checks.specs.declared.Frame.{Frame}
@@ -203,8 +205,8 @@ FrameFaultShown = (o : Opening) (s : Standing) (f : Opened) (m : Collected) (rep
     → frameChecks (s .table) (o .today) (o .kind) (frameOf f m) ≡ before ++ (here ∷ after) → noneFails before ≡ true → here .failed ≡ true
     → ShowsField reply (atFault (here .about) (f .suo .text) (m .text))
 
--- A first record that isn't an ESI, and an ESI outside a frame, get a reply that shows field 1 of that record: its first five characters, or
--- fewer.
+-- A first record that isn't an ESI, and an ESI outside a frame, get a reply that shows field 1 of that record: its first five characters,
+-- or fewer.
 abbrev pub TagFaultShown : Type 0
 TagFaultShown =
     ((o : Opening) (s : Standing) (chars : List ℕ) (reply : Answering) → begins ">>ESI" chars ≡ false
@@ -244,6 +246,35 @@ CallsJudged =
     ((s : Session) (b input room : List ℕ) → Fits s → readDone s b input room .answer .refusal ≡ 0
     → Shows (s .opening) (s .made) b (readDone s b input room)) ×
     ((s : Session) (b room : List ℕ) → Fits s → endDone s b room .answer .refusal ≡ 0 → Shows (s .opening) (s .made) b (endDone s b room))
+
+-- the bytes r are those of a reply, and their field 20 is its notice
+pub record IsReply (reply : Answering) (r : List ℕ) : Type 0 where
+  pub bytes : r ≡ replyOf reply
+  pub notice : fieldText (field 20) r ≡ noticeOf reply
+
+-- what the reply r of a call, as above, shows of the message at fault: nothing where its code is neither 1010 nor 1011; field 1 of a record
+-- where it is a bare E of the reading rules; the named field of the ESI; the named field of a frame's SUO or VAR, whichever the first
+-- failing check is about
+pub data ShowsFault (o : Opening) (made : ℕ) (b left r : List ℕ) : Type 0 where
+  no-fault : (reply : Answering) → IsReply reply r → isFault (reply .code) ≡ false → ShowsFault o made b left r
+  of-record : (pte : Bool) (code : ℕ) (chars : List ℕ) → IsReply (bareAnswer (tableOf b) o pte code (field 1) chars) r
+      → ShowsField (bareAnswer (tableOf b) o pte code (field 1) chars) chars
+      → left ≡ b
+      → ShowsFault o made b left r
+  of-esi : (m : Collected) → IsReply (esiReply o made b m left) r → ShowsField (esiReply o made b m left) (m .text)
+      → ShowsFault o made b left r
+  of-frame : (f : Frame) (code number : ℕ) (about : About) → IsReply (frameReply o made b f left) r
+      → firstFailing (frameChecks (tableOf b) (o .today) (o .kind) f) ≡ Found code number about
+      → ShowsField (frameReply o made b f left) (atFault about (f .suo .text) (f .var .text))
+      → ShowsFault o made b left r
+
+-- So every reply of every read and end, on any session and any table, with 1010 or 1011 shows the named field of the message at fault.
+abbrev pub CallsShowFault : Type 0
+CallsShowFault =
+    ((s : Session) (b input room r : List ℕ) → Fits s → shownBy (readDone s b input room) ≡ r ∷ []
+    → ShowsFault (s .opening) (s .made) b (readDone s b input room .table) r) ×
+    ((s : Session) (b room r : List ℕ) → Fits s → shownBy (endDone s b room) ≡ r ∷ []
+    → ShowsFault (s .opening) (s .made) b (endDone s b room .table) r)
 
 -- the reply r accepts an ESI or a frame that passes every check
 pub data Accepts (o : Opening) (made : ℕ) (b : List ℕ) (r left : List ℕ) : Type 0 where

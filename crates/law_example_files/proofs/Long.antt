@@ -67,7 +67,8 @@ unfolding all member same part overlay both either fails pick one between letter
     checksumDiffers digestDiffers isMissing keyOr0 partyChecks stampChecks roomChecks esiKeyChecks typeChecks esiChecks pairChecks
     keyChecks frameChecks grantTo recordAfter tableAfter outcomeOf isSound tableBy esiOutcome esiTable frameOutcome frameTable storedAt
     bytesAfter bytesBy esiLeaves frameLeaves contentsAs heldIn atFault codeIn fieldName shownByte valueText textOf clockText noticeOf hexOr
-    sealed sealedFlag joined head summed checksumKey enclosedKey replyOf replyLength replied writtenLength bareAnswer fullAnswer verdictAnswer moved
+    sealed sealedFlag joined head summed checksumKey enclosedKey replyOf replyLength replied writtenLength bareAnswer fullAnswer
+    verdictAnswer moved
     silent replies esiSays pteSays occasion afterEsi esiEnds suoEnds frameOf varEnds esiGoesOn suoGoesOn varGoesOn esiStarts suoStarts
     varStarts firstRecord outsideRecord withRecord frameRecord recordIn pastIn endIn givenAt sooner toldOf atStart wholeFile begins
     Rattle.whole_file.specs.Messages.textOf extentOf isWhole wantsMore collectedAs oneTime transportHeld oneTimeOf onceOf withoutCr

@@ -73,8 +73,8 @@ unfolding isE eachCheck esiChecks formChecks eachField layout partyChecks stampC
 esi-all-e t today m = refl
 
 frame-all-e : (t : Table) (today : Date) (kind : ℕ) (f : Frame) → eachCheck isE (frameChecks t today kind f) ≡ true
-unfolding isE eachCheck frameChecks formChecks eachField layout partyChecks typeChecks pairChecks stampChecks keyChecks roomChecks both fails
-    codeIn pick
+unfolding isE eachCheck frameChecks formChecks eachField layout partyChecks typeChecks pairChecks stampChecks keyChecks roomChecks both
+    fails codeIn pick
 frame-all-e t today kind f = refl
 
 pub esi-e : (t : Table) (today : Date) (m : Collected) (code field : ℕ) (about : About)

@@ -171,7 +171,7 @@ module _ (w : List ℕ) (e : isTable w ≡ true) where
 pub effect : (o : Opening) (made : ℕ) (w : List ℕ) (x : Turn) → isTable w ≡ true → o .today .yymmdd ≡ tableOf w .day
     → Turned o made w x → Effect w x
 effect o made w x e d (quiet u a q) = subst (Effect w) (sym q) (effect-silent w e u)
-effect o made w x e d (bare s pte code field chars u a n q) =
+effect o made w x e d (bare s pte code field chars u a n t q) =
     subst (Effect w) (sym q) (effect-bare w e s pte code field chars u (reading-e code n))
 effect o made w x e d (esi s m a l q) =
     subst (Effect w) (sym q) (effect-esi w e s (ap (λ (p : Opening). p .today .yymmdd) (a .opening) ∙ d) m l)

@@ -4,13 +4,15 @@
 use Prim.Native.Nat.{ℕ}
 use mathlib.Core.Path.{_≡_, refl, sym, ap, _∙_, subst}
 use mathlib.Core.List.{List, [], _∷_}
-use mathlib.Core.Bool.{Bool, true, false}
+use mathlib.Core.Bool.{Bool, true, false, false≢true}
 use mathlib.Core.Logic.{_⊎_, inl, inr, ⊎-elim}
+use lib.Dec.{eqb}
 use lib.ListN.{length}
 use Rattle.ground.specs.Choice.{either, pick}
 use Rattle.ground.specs.Lists.{member}
 use Rattle.ground.proofs.Choices.{picks}
 use Rattle.ground.proofs.Bools.{picked}
+use Rattle.message.specs.Layout.{field, noField}
 use Rattle.message.specs.declared.Extent.{Extent}
 use Rattle.message.specs.declared.Extent.the-variants.{Whole, CutShort}
 use Rattle.message.specs.declared.Kind.{Kind}
@@ -30,48 +32,55 @@ use Rattle.law_cutting.proofs.Keeps.{heard-later}
 use Rattle.law_history.specs.History.{readingCodes}
 use Rattle.law_history.proofs.Sessions.{Of, of-line, of-heard, of-empty, of-on, of-taken, of-suo-on, of-suo-start, collected-length}
 
+-- a code that shows a field's contents is on field 1, the only one that the reading rules look at
+abbrev pub OnTag : (code n : ℕ) → Type 0
+OnTag code n = either (eqb code 1010) (eqb code 1011) ≡ true → n ≡ field 1
+
 -- a turn of a file opened by o, in which so many keys were made, on the table's bytes w
 pub data Turned (o : Opening) (made : ℕ) (w : List ℕ) (x : Turn) : Type 0 where
   quiet : (u : Session) → Of o made u → x ≡ silent u w → Turned o made w x
-  bare : (s : Session) (pte : Bool) (code field : ℕ) (chars : List ℕ) (u : Session) → Of o made s → member code readingCodes ≡ true
-      → x ≡ bareTurn s w pte code field chars u → Turned o made w x
+  bare : (s : Session) (pte : Bool) (code n : ℕ) (chars : List ℕ) (u : Session) → Of o made s → member code readingCodes ≡ true
+      → OnTag code n → x ≡ bareTurn s w pte code n chars u → Turned o made w x
   esi : (s : Session) (m : Collected) → Of o made s → length (m .text) ≡ 161 → x ≡ esiDone s w m → Turned o made w x
   var : (s : Session) (m : Collected) → Of o made s → length (m .text) ≡ 161 → x ≡ varDone s w m → Turned o made w x
 
--- ---- the codes of the reading rules
+-- ---- the codes of the reading rules, each with its field
 
-is1010 : member 1010 readingCodes ≡ true
-unfolding member either
-is1010 = refl
+abbrev OfReading : (code n : ℕ) → Type 0
+OfReading code n = (member code readingCodes ≡ true) × OnTag code n
 
-is1011 : member 1011 readingCodes ≡ true
+is1010 : OfReading 1010 (field 1)
 unfolding member either
-is1011 = refl
+is1010 = (refl, λ e. refl)
 
-is1023 : member 1023 readingCodes ≡ true
+is1011 : OfReading 1011 (field 1)
 unfolding member either
-is1023 = refl
+is1011 = (refl, λ e. refl)
 
-is1024 : member 1024 readingCodes ≡ true
+is1023 : OfReading 1023 noField
 unfolding member either
-is1024 = refl
+is1023 = (refl, λ e. absurd (false≢true e))
 
-is1032 : member 1032 readingCodes ≡ true
+is1024 : OfReading 1024 noField
 unfolding member either
-is1032 = refl
+is1024 = (refl, λ e. absurd (false≢true e))
 
-is1034 : member 1034 readingCodes ≡ true
+is1032 : OfReading 1032 noField
 unfolding member either
-is1034 = refl
+is1032 = (refl, λ e. absurd (false≢true e))
+
+is1034 : OfReading 1034 noField
+unfolding member either
+is1034 = (refl, λ e. absurd (false≢true e))
 
 module _ (o : Opening) (made : ℕ) (w : List ℕ) where
   both-turned : (t : Bool) (x y : Turn) → Turned o made w x → Turned o made w y → Turned o made w (pick t x y)
   both-turned t x y p q = picked (Turned o made w) t x y (λ e. p) (λ e. q)
 
   module _ (s : Session) (a : Of o made s) where
-    turned-bare : (pte : Bool) (code field : ℕ) (chars : List ℕ) (u : Session) → member code readingCodes ≡ true
-        → Turned o made w (bareTurn s w pte code field chars u)
-    turned-bare pte code field chars u e = bare s pte code field chars u a e refl
+    turned-bare : (pte : Bool) (code n : ℕ) (chars : List ℕ) (u : Session) → OfReading code n
+        → Turned o made w (bareTurn s w pte code n chars u)
+    turned-bare pte code n chars u e = bare s pte code n chars u a (e .0) (e .1) refl
 
     -- ---- a message's end
 
@@ -101,21 +110,22 @@ module _ (o : Opening) (made : ℕ) (w : List ℕ) where
 
     turned-first : Turned o made w (firstEnds s w)
     unfolding firstEnds
-    turned-first = both-turned _ _ _ turned-esi-start (turned-bare false 1010 10 _ (shut s) is1010)
+    turned-first = both-turned _ _ _ turned-esi-start (turned-bare false 1010 (field 1) _ (shut s) is1010)
 
     turned-outside : Turned o made w (outsideEnds s w)
     unfolding outsideEnds
     turned-outside =
         both-turned _ _ _ (quiet _ (of-suo-start o s a w) refl)
-        (both-turned _ _ _ (turned-bare false 1011 10 _ (shut s) is1011)
-        (both-turned _ _ _ (quiet _ (of-empty o s a Outside true) refl) (turned-bare true 1023 0 _ (placed s Outside true nothing) is1023)))
+        (both-turned _ _ _ (turned-bare false 1011 (field 1) _ (shut s) is1011)
+        (both-turned _ _ _ (quiet _ (of-empty o s a Outside true) refl)
+        (turned-bare true 1023 noField _ (placed s Outside true nothing) is1023)))
 
     turned-frame : Turned o made w (frameEnds s w)
     unfolding frameEnds
     turned-frame =
         both-turned _ _ _ turned-var-start
-        (both-turned _ _ _ (turned-bare true 1024 0 _ (suoStart s w) is1024)
-        (both-turned _ _ _ (turned-bare true 1024 0 _ (shut s) is1024) (quiet _ (of-taken o s a) refl)))
+        (both-turned _ _ _ (turned-bare true 1024 noField _ (suoStart s w) is1024)
+        (both-turned _ _ _ (turned-bare true 1024 noField _ (shut s) is1024) (quiet _ (of-taken o s a) refl)))
 
     turned-collecting : (kind : Kind) → Turned o made w (collectingEnds kind s w)
     unfolding collectingEnds
@@ -139,10 +149,10 @@ module _ (o : Opening) (made : ℕ) (w : List ℕ) where
 
     turned-passed-in : (p : Place) → Turned o made w (passedIn p s w)
     unfolding passedIn
-    turned-passed-in BeforeEsi = turned-bare false 1034 0 _ (shut s) is1034
-    turned-passed-in Outside = turned-bare true 1034 0 _ (shut s) is1034
-    turned-passed-in (Collecting kind) = turned-bare (pick (isEsi kind) false true) 1034 0 _ (shut s) is1034
-    turned-passed-in InData = turned-bare true 1034 0 _ (shut s) is1034
+    turned-passed-in BeforeEsi = turned-bare false 1034 noField _ (shut s) is1034
+    turned-passed-in Outside = turned-bare true 1034 noField _ (shut s) is1034
+    turned-passed-in (Collecting kind) = turned-bare (pick (isEsi kind) false true) 1034 noField _ (shut s) is1034
+    turned-passed-in InData = turned-bare true 1034 noField _ (shut s) is1034
     turned-passed-in Closed = quiet s a refl
 
     turned-passed : Turned o made w (passed s w)
@@ -154,7 +164,7 @@ module _ (o : Opening) (made : ℕ) (w : List ℕ) where
     turned-cut : (kind : Kind) → Turned o made w (cutShort kind s w)
     unfolding cutShort
     turned-cut Esi = turned-esi CutShort
-    turned-cut Suo = turned-bare true 1032 0 _ (shut s) is1032
+    turned-cut Suo = turned-bare true 1032 noField _ (shut s) is1032
     turned-cut Var = turned-var CutShort
 
     turned-finished : (p : Place) → Turned o made w (finishedIn p s w)
@@ -162,7 +172,7 @@ module _ (o : Opening) (made : ℕ) (w : List ℕ) where
     turned-finished BeforeEsi = quiet s a refl
     turned-finished Outside = quiet s a refl
     turned-finished (Collecting kind) = turned-cut kind
-    turned-finished InData = turned-bare true 1024 0 _ (shut s) is1024
+    turned-finished InData = turned-bare true 1024 noField _ (shut s) is1024
     turned-finished Closed = quiet s a refl
 
     pub turned-file : Turned o made w (fileEnded s w)
@@ -192,9 +202,10 @@ module _ (o : Opening) (made : ℕ) (w : List ℕ) where
   unfolding scanOn
   scan-last x r e = sym (ap (λ (y : Scan). y .turn) (picks {A = Scan} _ (record { turn = x; taken = 1 }) _ e))
 
-  given-bare : (s : Session) (pte : Bool) (code field : ℕ) (chars : List ℕ) (u : Session) → bareTurn s w pte code field chars u .out .reply .given ≡ true
+  given-bare : (s : Session) (pte : Bool) (code n : ℕ) (chars : List ℕ) (u : Session)
+      → bareTurn s w pte code n chars u .out .reply .given ≡ true
   unfolding bareTurn replies
-  given-bare s pte code field chars u = refl
+  given-bare s pte code n chars u = refl
 
   given-esi : (s : Session) (m : Collected) → esiDone s w m .out .reply .given ≡ true
   unfolding esiDone replies
@@ -210,7 +221,7 @@ module _ (o : Opening) (made : ℕ) (w : List ℕ) where
   -- a turn either says nothing, and leaves the table's bytes, or gives a reply
   pub says : (x : Turn) → Turned o made w x → ((u : Session) × Of o made u × (x ≡ silent u w)) ⊎ (x .out .reply .given ≡ true)
   says x (quiet u a e) = inl (u, a, e)
-  says x (bare s pte code field chars u a n e) = inr (ap given e ∙ given-bare s pte code field chars u)
+  says x (bare s pte code n chars u a m t e) = inr (ap given e ∙ given-bare s pte code n chars u)
   says x (esi s m a l e) = inr (ap given e ∙ given-esi s m)
   says x (var s m a l e) = inr (ap given e ∙ given-var s m)
 

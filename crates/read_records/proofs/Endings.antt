@@ -23,7 +23,8 @@ module _ (s : Session) (w : List ℕ) {r : Stepped} {after : Session} {suo : Boo
   pub outside-esi : {esi : Bool} → suo ≡ begins ">>SUO" (held (s .gathered)) → suo ≡ false → esi ≡ begins ">>ESI" (held (s .gathered))
       → esi ≡ true → r ≡ bareTurn s w false 1011 10 (held (s .gathered)) after .out → after ≡ shut s → Gives r w (outsideEnds s w)
   unfolding outsideEnds
-  outside-esi e h f k g a = skipped (Gives r w) _ _ _ _ e h (chosen (Gives r w) _ _ _ _ f k (barely w s false 1011 10 (held (s .gathered)) g a))
+  outside-esi e h f k g a =
+      skipped (Gives r w) _ _ _ _ e h (chosen (Gives r w) _ _ _ _ f k (barely w s false 1011 10 (held (s .gathered)) g a))
 
   pub outside-told : {esi : Bool} {g : Gathered} → suo ≡ begins ">>SUO" (held (s .gathered)) → suo ≡ false → esi
       ≡ begins ">>ESI" (held (s .gathered)) → esi ≡ false → s .told ≡ true → ((v : List ℕ) → r ≡ silent after v .out) → after
@@ -37,7 +38,8 @@ module _ (s : Session) (w : List ℕ) {r : Stepped} {after : Session} {suo : Boo
       ≡ placed s Outside true g → g ≡ nothing → Gives r w (outsideEnds s w)
   unfolding outsideEnds
   outside-untold e h f k t g a n = skipped (Gives r w) _ _ _ _ e h
-      (skipped (Gives r w) _ _ _ _ f k (skipped (Gives r w) _ _ _ _ refl t (barely w s true 1023 0 [] g (a ∙ ap (placed s Outside true) n))))
+      (skipped (Gives r w) _ _ _ _ f k
+      (skipped (Gives r w) _ _ _ _ refl t (barely w s true 1023 0 [] g (a ∙ ap (placed s Outside true) n))))
 
 module _ (s : Session) (w : List ℕ) {r : Stepped} {after : Session} {var suo : Bool} where
   pub frame-suo : var ≡ begins ">>VAR" (held (s .gathered)) → var ≡ false → suo ≡ begins ">>SUO" (held (s .gathered)) → suo ≡ true → r

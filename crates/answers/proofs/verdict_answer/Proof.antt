@@ -21,7 +21,8 @@ returns c =
     let at-if = at-fault .before in
     let s = at-if .before .before .before in
     let a = s .args in
-    let e : take 161 (at-fault .at-fault .result) ≡ atFault (a .out .about) (a .m) (a .closing) = ap (take 161) (at-fault .at-fault .ensures)
+    let e : take 161 (at-fault .at-fault .result) ≡ atFault (a .out .about) (a .m) (a .closing) =
+    ap (take 161) (at-fault .at-fault .ensures)
     ∙ fault-whole (a .out .about) (a .m) (a .closing) (sized s .0) (sized s .1) in
     c .bare-answer .ensures
     ∙ ap (bareAnswer (tableOf (now (a .t))) (a .o) (a .pte) (a .out .code) (a .out .field)) e

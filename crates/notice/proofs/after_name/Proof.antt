@@ -15,7 +15,8 @@ use Rattle.notice.proofs.after_name.Tie as tie
 returns : tie.Need-returns
 returns c =
     let s = c .before .before .before in
-    c .value .ensures ∙ ap (padded 51) (rest-value (s .args .code) _ (sym (c .before .before .shows-contents .ensures) ∙ c .before .if1 .taken))
+    c .value .ensures
+    ∙ ap (padded 51) (rest-value (s .args .code) _ (sym (c .before .before .shows-contents .ensures) ∙ c .before .if1 .taken))
 
 blanks : replicate 51 blank ≡ padded 51 []
 unfolding padded
@@ -24,7 +25,8 @@ blanks = refl
 returns-2 : tie.Need-returns-2
 returns-2 c =
     let s = c .before .before .before in
-    blanks ∙ ap (padded 51) (rest-none (s .args .code) _ (sym (c .before .before .shows-contents .ensures) ∙ c .before .if1 .left) (c .if2 .taken))
+    blanks ∙ ap (padded 51) (rest-none (s .args .code) _ (sym (c .before .before .shows-contents .ensures) ∙ c .before .if1 .left)
+    (c .if2 .taken))
 
 -- the text with its blanks
 differing : List ℕ

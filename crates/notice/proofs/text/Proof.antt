@@ -19,7 +19,8 @@ returns : tie.Need-returns
 returns c =
     let a = c .before .before .before .args in
     c .before .before .before2 .ensures
-    ∙ ap (padded 51) (unnamed (a .code) (a .field) (heldIn (a .contents)) (sym (c .before .names-field .ensures) ∙ not-true _ (c .if1 .taken)))
+    ∙ ap (padded 51) (unnamed (a .code) (a .field) (heldIn (a .contents))
+    (sym (c .before .names-field .ensures) ∙ not-true _ (c .if1 .taken)))
 
 joined-requires : tie.Need-joined-requires
 joined-requires c κs = omega (arith, code-room (c .before .before .before .before .before .args .code))
