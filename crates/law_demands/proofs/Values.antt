@@ -181,15 +181,19 @@ is1011 : isFault 1011 ≡ true
 unfolding either
 is1011 = refl
 
+-- what holds of the reply that is given
+given : (a reply : Answering) (chars : List ℕ) (x : Step) → x .says ≡ reply ∷ [] → x .says ≡ a ∷ [] → a .field ≡ field 1 → ShowsField a chars
+    → (reply .field ≡ field 1) × ShowsField reply chars
+given a reply chars x says is n shows =
+    subst (λ (r : Answering). (r .field ≡ field 1) × ShowsField r chars) (one-is _ _ (sym is ∙ says)) (n, shows)
+
 pub tag-fault-shown : TagFaultShown
-unfolding firstRecord outsideRecord esiSays replies
+unfolding firstRecord outsideRecord esiSays replies bareAnswer
 tag-fault-shown = (
   λ o s chars reply b says.
-      subst (λ (a : Answering). ShowsField a chars)
-      (one-is _ _ (sym (ap (λ (x : Step). x .says) (skips _ _ _ b)) ∙ says))
-      (bare-shows (s .table) o false 1010 (field 1) chars is1010 tag-narrow),
+      given (bareAnswer (s .table) o false 1010 (field 1) chars) reply chars (firstRecord o s chars) says
+      (ap (λ (x : Step). x .says) (skips _ _ _ b)) refl (bare-shows (s .table) o false 1010 (field 1) chars is1010 tag-narrow),
   λ o s told chars reply b c says.
-      subst (λ (a : Answering). ShowsField a chars)
-      (one-is _ _ (sym (ap (λ (x : Step). x .says) (skips _ _ _ b ∙ picks _ _ _ c)) ∙ says))
-      (bare-shows (s .table) o false 1011 (field 1) chars is1011 tag-narrow),
+      given (bareAnswer (s .table) o false 1011 (field 1) chars) reply chars (outsideRecord o s told chars) says
+      (ap (λ (x : Step). x .says) (skips _ _ _ b ∙ picks _ _ _ c)) refl (bare-shows (s .table) o false 1011 (field 1) chars is1011 tag-narrow),
 )

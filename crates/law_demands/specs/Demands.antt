@@ -210,9 +210,9 @@ FrameFaultShown = (o : Opening) (s : Standing) (f : Opened) (m : Collected) (rep
 abbrev pub TagFaultShown : Type 0
 TagFaultShown =
     ((o : Opening) (s : Standing) (chars : List ℕ) (reply : Answering) → begins ">>ESI" chars ≡ false
-    → firstRecord o s chars .says ≡ reply ∷ [] → ShowsField reply chars) ×
+    → firstRecord o s chars .says ≡ reply ∷ [] → (reply .field ≡ field 1) × ShowsField reply chars) ×
     ((o : Opening) (s : Standing) (told : Bool) (chars : List ℕ) (reply : Answering) → begins ">>SUO" chars ≡ false
-    → begins ">>ESI" chars ≡ true → outsideRecord o s told chars .says ≡ reply ∷ [] → ShowsField reply chars)
+    → begins ">>ESI" chars ≡ true → outsideRecord o s told chars .says ≡ reply ∷ [] → (reply .field ≡ field 1) × ShowsField reply chars)
 
 -- what a served call shows and leaves, of a file opened by o in which so many keys were made, on the table's bytes b: nothing; a bare E of
 -- the reading rules; or the verdict on an ESI or on a frame, by the list of checks on the table as it stands then
