@@ -50,7 +50,7 @@ awk '/^pub mod/ { kind = toupper($3) }
     rust/lentilpot/src/constants.rs | LC_ALL=C sort >"$work/constants.rust"
 { [ -s "$work/constants.c" ] && diff "$work/constants.c" "$work/constants.rust" >&2; } || fail "the constants of the header (<) differ from those in Rust (>)"
 # Every code of the definition has a name, and ACCEPTED is in those of K.
-sed -nE 's/.*(taken|refused|barely|code =) (10[0-9][0-9]).*/\1 \2/p' crates/notice/specs/Codes.antt |
+sed -nE 's/.*(taken|refused|barely|faulty|code =) (10[0-9][0-9]).*/\1 \2/p' crates/notice/specs/Codes.antt |
     awk '{ print $NF, $1 == "taken" ? "K" : "E" }' | LC_ALL=C sort >"$work/codes"
 sed -n 's/^CODE_\(.*\) \(.*\)/\2 \1/p' "$work/header" | awk '{ print $1, $2 ~ /^ACCEPTED/ ? "K" : "E" }' | LC_ALL=C sort |
     diff "$work/codes" - >&2 || fail "the definition's codes (<) differ from the header's (>)"
