@@ -20,7 +20,7 @@ use Rattle.session.specs.Ranges.{Encodes, inRange}
 use Rattle.session.specs.declared.Session.{Session}
 use Rattle.session_bytes.specs.Session.{sessionSize, sessionBytes, isSession, sessionIn}
 use Rattle.session_bytes.proofs.Laws.{back, size, is-session, said, long}
-use Rattle.session_bytes.proofs.Any.{encodes-in}
+use Rattle.session_bytes.proofs.Any.{fits-in, encodes-in}
 use Rattle.calls.specs.Reading.{Done, refusedBy, openingAnswer, openingGives, openingLeaves, readDone, endDone}
 use Rattle.calls.specs.Calls.{refusalOf, leftBy}
 use Rattle.law_history.specs.History.{allDifferent}
@@ -33,11 +33,12 @@ use Rattle.edge.proofs.Made.{kept, opened-kept}
 use Rattle.law_edge.proofs.Apart.{read-apart, end-apart}
 use Rattle.law_edge.proofs.Asked.{read-cases, end-cases}
 use Rattle.law_edge.proofs.Sessions.{read-encodes, end-encodes, opening-encodes, opened-bytes, after-bytes, open-bytes}
-use Rattle.law_edge.proofs.Replies.{replies-seen, all-typed}
+use Rattle.law_edge.proofs.Replies.{read-seen, end-seen, replies-seen, all-typed}
 use Rattle.law_edge.proofs.Running.{runs-of, runs-to}
 use Rattle.law_demands.specs.Demands.{BoxNoStampTwice, broughtBy, BoxAnyCuts, BoxRunsExist, BoxTakenApart, BoxNoSecond}
-use Rattle.law_demands.specs.Demands.{BoxUntouched, BoxRefusedStays, Back, BoxSessionsBack}
+use Rattle.law_demands.specs.Demands.{BoxUntouched, BoxRefusedStays, BoxShowsFault, Back, BoxSessionsBack}
 use Rattle.law_demands.proofs.Refusals.{refused-stays, refused-read-stays, refused-end-stays}
+use Rattle.law_demands.proofs.Seen.{calls-show-fault}
 use Rattle.law_demands.proofs.Ranges.{sessions-in-range}
 use Rattle.law_demands.proofs.Cuts.{any-cuts, runs-exist}
 
@@ -224,3 +225,13 @@ end-back b session room e =
 
 pub box-sessions-back : BoxSessionsBack
 box-sessions-back = (opened-back, read-back, end-back)
+
+-- ---- a field's contents
+
+pub box-shows-fault : BoxShowsFault
+unfolding boxTable callOf leftBy
+box-shows-fault = (
+  λ b session input room r q.
+      calls-show-fault .0 (sessionIn session) b input room r (fits-in session) (sym (read-seen b session input room) ∙ q),
+  λ b session room r q. calls-show-fault .1 (sessionIn session) b room r (fits-in session) (sym (end-seen b session room) ∙ q),
+)

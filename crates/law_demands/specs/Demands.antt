@@ -56,7 +56,8 @@ use Rattle.law_history.specs.History.{isK, isSettingUp, isHearing, readingCodes
 use Rattle.law_protocol.specs.Protocol.{Saw, Lent, Runs, RunServed, roomsFrom, readsFrom}
 use Rattle.session_bytes.specs.Session.{sessionSize, isSession, sessionIn}
 use Rattle.edge.specs.Edge.{takenIn, lengthIn, finishedIn, refusalIn}
-use Rattle.edge.specs.Box.{BoxCall, lpSetUp, lpOpen, lpRead, lpEnd, callOf, boxAnswer, boxTable, boxSession, boxReplies, MeetsBox}
+use Rattle.edge.specs.Box.{BoxCall, lpSetUp, lpOpen, lpRead, lpEnd, callOf, boxAnswer, boxTable, boxSession, boxReply, boxReplies}
+use Rattle.edge.specs.Box.{MeetsBox}
 use Rattle.edge.specs.Box.{boxRoom, Words, AllWords}
 use Rattle.law_edge.specs.TakenApart.{Apart}
 use Rattle.law_edge.specs.BoxRuns.{BoxRuns}
@@ -455,6 +456,14 @@ BoxNoStampTwice = (b bank software : List ℕ) (floor k v : ℕ) (holidays : Lis
     → AllWords (lpSetUp bank software floor k v holidays ∷ cs)
     → noSetUp (boxTable b (lpSetUp bank software floor k v holidays)) (map callOf cs) ≡ true
     → allDifferent (boxReplies b (lpSetUp bank software floor k v holidays ∷ cs)) ≡ true
+
+-- Every reply that lp_read and lp_end show, on any bytes, with 1010 or 1011 shows the named field of the message at fault.
+abbrev pub BoxShowsFault : Type 0
+BoxShowsFault =
+    ((b session input room r : List ℕ) → boxReply b (lpRead session input room) ≡ r ∷ []
+    → ShowsFault (sessionIn session .opening) (sessionIn session .made) b (boxTable b (lpRead session input room)) r) ×
+    ((b session room r : List ℕ) → boxReply b (lpEnd session room) ≡ r ∷ []
+    → ShowsFault (sessionIn session .opening) (sessionIn session .made) b (boxTable b (lpEnd session room)) r)
 
 -- what a box brought to lp_open
 abbrev pub broughtBy : (today time kind clock : ℕ) → Opening

@@ -13,8 +13,9 @@ ghost use Rattle.reply.specs.Reply.{clockText, noticeOf, hexOr, sealed, 
 ghost use Rattle.reply.specs.Reply.{bodyFields, head, checksumKey, enclosedKey, replyOf, replyLength, replied, writtenLength};
 ghost use Rattle.reply.specs.Putting.{Put, marks};
 
-// What a reply answers: ESI or PTE, bare or full, code, field and its contents, the opening's time, the bank and its software, the message (a frame's
-// SUO) and the one that closed it (the VAR), the working key of the message's generation, its transport key, and the key to enclose.
+// What a reply answers: ESI or PTE, bare or full, code, field and its contents, the opening's time, the bank and its software, the message
+// (a frame's SUO) and the one that closed it (the VAR), the working key of the message's generation, its transport key, and the key to
+// enclose.
 pub struct Answering {
     pub pte: bool,
     pub bare: bool,
