@@ -322,7 +322,7 @@ static void check_place(enum call c, const struct answer *a, const uint8_t *inpu
 
 /* A session handed back is one that the next call takes, unless the file is finished. */
 static void check_session(enum call c, struct bank *b, struct file *f, const struct answer *a) {
-    if (FAULT == 10 && !a->finished) put_number(f->session + GATHERED, 4, 162);
+    if (FAULT == 10 && !a->finished) put_number(f->session + GATHERED, 4, 501);
     if (FAULT == 18 && a->finished) f->session[PLACE] = 1;
     const char *why = no_session(f->session, f->length, b->table, c == READ);
     if (!why && a->finished) broken("a finished file's session is still open", call_names[c]);

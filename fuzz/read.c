@@ -15,7 +15,7 @@ static const struct {
 } numbers[] = {
     {OPENED, 1},         {ENDED, 1},       {TOLD, 1},         {PLACE, 1},       {OPENED_DAY, 4},  {OPENED_TIME, 4},
     {OPENED_TYPE, 4},    {MADE, 8},        {OPENED_CLOCK, 8}, {SIZE, 4},        {CR_WAITS, 1},    {GATHERED, 4},
-    {GATHERED_BLANK, 1}, {SUO_ALONE, 4},   {SUO_BLANK, 1},    {ONCE_HELD, 1},   {ONCE, 8},        {DIGEST, 8},
+    {GATHERED_BLANK, 1}, {SUO_ALONE, 1},   {SUO_BLANK, 1},    {ONCE_HELD, 1},   {ONCE, 8},        {DIGEST, 8},
     {DIGEST + 8, 8},     {DIGEST + 16, 8}, {DIGEST + 24, 8},  {DIGEST + 32, 8}, {DIGEST + 40, 8}, {DIGEST + 48, 8},
     {DIGEST + 56, 8},    {DIGEST + 64, 8},
 };

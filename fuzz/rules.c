@@ -141,7 +141,7 @@ const char *no_table(const uint8_t *table, size_t length) {
 
 const char *no_session(const uint8_t *session, size_t length, const uint8_t *table, int is_read) {
     static const uint16_t yes_or_no[] = {OPENED, ENDED, TOLD, CR_WAITS, GATHERED_BLANK, SUO_BLANK, ONCE_HELD};
-    if (length != LP_SESSION_SIZE) return "another length than 475";
+    if (length != LP_SESSION_SIZE) return "another length than 472";
     for (size_t i = 0; i < sizeof yes_or_no / sizeof *yes_or_no; i++)
         if (session[yes_or_no[i]] > 1) return "a yes or no that is neither";
     if (session[PLACE] > 6) return "no place";
@@ -153,8 +153,8 @@ const char *no_session(const uint8_t *session, size_t length, const uint8_t *tab
     if (!real_time((uint32_t)number_at(session + OPENED_TIME, 4))) return "a time that isn't real";
     uint64_t type = number_at(session + OPENED_TYPE, 4);
     if (type < 1 || type > 16) return "a data type that isn't 1 to 16";
-    if (number_at(session + GATHERED, 4) > 161) return "more than 161 characters gathered";
-    return number_at(session + SUO_ALONE, 4) > 3 ? "a one-record fault past 3" : NULL;
+    if (number_at(session + GATHERED, 4) > 500) return "more than 500 characters gathered";
+    return session[SUO_ALONE] > 3 ? "a one-record fault past 3" : NULL;
 }
 
 uint32_t setting_up_refusal(size_t table_length, const struct setting *s) {

@@ -50,11 +50,11 @@ enum {
     GATHERED_BLANK = 66,
     GATHERED_TEXT = 67,
     SUO_ALONE = 228,
-    SUO_BLANK = 232,
-    SUO_TEXT = 233,
-    ONCE_HELD = 394,
-    ONCE = 395,
-    DIGEST = 403
+    SUO_BLANK = 229,
+    SUO_TEXT = 230,
+    ONCE_HELD = 391,
+    ONCE = 392,
+    DIGEST = 400
 };
 
 struct setting {

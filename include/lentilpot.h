@@ -50,11 +50,11 @@
 extern "C" {
 #endif
 
-#define LP_VERSION "1.1"       /* of these functions and constants */
-#define LP_VERSION_NUMBER 101  /* the same for #if: 100 times the first number, and the second */
+#define LP_VERSION "1.2"       /* of these functions and constants */
+#define LP_VERSION_NUMBER 102  /* the same for #if: 100 times the first number, and the second */
 
 #define LP_TABLE_SIZE 49152  /* the bytes of a table */
-#define LP_SESSION_SIZE 475  /* the bytes of a session: what lp_session_size() says */
+#define LP_SESSION_SIZE 472  /* the bytes of a session: what lp_session_size() says */
 #define LP_REPLY_ROOM 317    /* the least room for a reply, and the longest reply */
 #define LP_WHO_SIZE 25       /* an identity (17) and a qualifier (8) */
 #define LP_SOFTWARE_SIZE 16  /* a software name */

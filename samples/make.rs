@@ -28,6 +28,7 @@ struct Customer<'a> {
     transport: u64,
     working: u64,
     qualifier: &'a str,
+    version: &'a str,
 }
 
 // The n-th one-time key.
@@ -50,13 +51,14 @@ impl<'a> Customer<'a> {
         let working = odd(mac.decipher(transport, 0));
         assert_eq!((transport, working), (0x379723239789FD9D, 0xAEBAE983D6406D07));
         assert_eq!(mac.encipher(transport, 0) >> 40, 0x028E4C);
-        Customer { mac, transport, working, qualifier }
+        Customer { mac, transport, working, qualifier, version: "120" }
     }
 
     // Fields 1 to 15.
     fn message(&self, start: &str, method: &str, stamp: &str, mark: &str, once: &str) -> String {
         let who = format!("{BANK:25}{IDENTITY:17}{:8}", self.qualifier);
-        format!("{start}120 0000KERMIT      3.01{method}{who}00{stamp}{mark}{:9}{once:16}", "")
+        let version = self.version;
+        format!("{start}{version} 0000KERMIT      3.01{method}{who}00{stamp}{mark}{:9}{once:16}", "")
     }
 
     // Fields 16 to 18 added.
@@ -88,6 +90,18 @@ impl<'a> Customer<'a> {
         let (suo, var) = self.around(&format!("{first}003"), "SKE", once(n + 1), &ended(&records[..2], b"\r\n"));
         lines.extend([&[suo.into_bytes()], &records[..2], &[var.into_bytes()]].concat());
         ended(&lines, b"\r\n")
+    }
+
+    // An ESI and a batch of a newer release: the messages are longer, folded, and their rests hold anything.
+    fn newer(&self, first: &str, n: u64) -> Vec<u8> {
+        let newer = Customer { version: "130", ..*self };
+        let (records, stamp) = (RECORDS.map(<[u8]>::to_vec), format!("{first}002"));
+        let held = format!("{:016X}", self.mac.encipher(self.transport, once(n)));
+        let digest = format!("{:016X}", self.mac.digest(once(n), &ended(&records, b"\n"), true));
+        let esi = newer.signed(&newer.message(">>ESI170", "SMH", &format!("{first}001"), " ", ""), "") + "NEW FIELD";
+        let suo = newer.message(">>SUO150", "SKH", &stamp, "S", &held) + ">>VAR161120 of no use;";
+        let var = newer.signed(&newer.message(">>VAR500", "SMH", &stamp, "S", &held), &digest) + &"~".repeat(339);
+        ended(&[folded(&esi), folded(&suo), records.to_vec(), folded(&var)].concat(), b"\n")
     }
 
     // An ESI and so many batches.
@@ -126,6 +140,7 @@ fn main() -> std::io::Result<()> {
                 ("second", customer("B").good("941017073000", 10)),
                 ("unknown", customer("C").good("941017073000", 20)),
                 ("damaged", damaged),
+                ("newer", customer("").newer("941017100000", 70)),
                 ("batches", customer("").many("941017090000", 20, 40)),
                 ("outside", b"HELLO\n".to_vec()),
                 ("empty", vec![]),

@@ -217,6 +217,26 @@ static void codes(void) {
     lp_who(sender.who, "99910000011111111", "B"), gives(LP_CODE_UNKNOWN_CUSTOMER, batch);
 }
 
+/* A session of releases up to 1.1 had three bytes more after the SUO's extent, 475: it is refused, and nothing changes. */
+static void earlier(void) {
+    enum { EARLIER = 475, EXTENT = 228 };
+    uint8_t old[EARLIER], kept[EARLIER], room[LP_REPLY_ROOM] = {1}, same[LP_REPLY_ROOM] = {1};
+    hold(lp_session_size() == LP_SESSION_SIZE, "the session's size");
+    receive(lines[0]);
+    hold(lp_open(table, sizeof table, session, sizeof session, day, 91500, 3, 7) == LP_SERVED, "an opening");
+    memcpy(other, table, sizeof table);
+    memcpy(old, session, EXTENT + 1), memset(old + EXTENT + 1, 0, 3);
+    memcpy(old + EXTENT + 4, session + EXTENT + 1, LP_SESSION_SIZE - EXTENT - 1), memcpy(kept, old, EARLIER);
+    uint64_t read = lp_read(table, sizeof table, old, EARLIER, (const uint8_t *)lines[0], strlen(lines[0]), room, sizeof room);
+    uint64_t end = lp_end(table, sizeof table, old, EARLIER, room, sizeof room);
+    uint64_t open = lp_open(table, sizeof table, old, EARLIER, day, 91500, 3, 7);
+    hold(lp_refusal(read) == LP_REFUSED_SESSION && !lp_taken(read) && !lp_reply_length(read), "a read with an earlier release's session");
+    hold(lp_refusal(end) == LP_REFUSED_SESSION && !lp_reply_length(end), "an end with an earlier release's session");
+    hold(open == LP_REFUSED_ARGUMENT, "an opening with an earlier release's room");
+    hold(!memcmp(old, kept, EARLIER) && !memcmp(room, same, sizeof room) && !memcmp(table, other, sizeof table), "a refused call changed something");
+    hold(lp_refusal(lp_read(table, sizeof table, session, sizeof session, (const uint8_t *)"", 0, room, sizeof room)) == LP_SERVED, "a read");
+}
+
 int main(int argc, char **argv) {
     FILE *f = argc == 2 ? fopen(argv[1], "rb") : NULL;
     int n = 0;
@@ -224,6 +244,6 @@ int main(int argc, char **argv) {
     hold(n == LINES, "the sample has 13 lines");
     hold(LP_VERSION_NUMBER == 100 * (LP_VERSION[0] - '0') + (LP_VERSION[2] - '0'), "the two versions");
     sender = customer();
-    customers(), adjoining(), sample(), names(), codes();
+    customers(), adjoining(), sample(), names(), codes(), earlier();
     return wrong;
 }

@@ -101,7 +101,11 @@ new_bank() { # TABLE BANK QUALIFIER FLOOR TYPES
 }
 new_bank t 003701234567 "" 120 1
 sed '1s/^\(>>ESI161\)120/\1110/' "$root/samples/good.txt" >file
-on "the version is below the bank's floor: it is 110, the floor is 120. Customer \"$ID\"" t 941017 1 file
+on "the version is too old: it is 110, the floor is 120 (and 111 to 119 are never taken). Customer \"$ID\"" t 941017 1 file
+for version in 100 111 119; do
+    sed "1s/^\(>>ESI161\)120/\1$version/" "$root/samples/good.txt" >file
+    explained "the version is too old: it is $version, the floor is 110 (and 111 to 119 are never taken). Customer \"$ID\"" file
+done
 new_bank t 003701234568 X 110 1
 on 'the receiver isn'"'"'t this bank: it is "003701234567" qualifier "", the bank is "003701234568" qualifier "X". Customer' t 941017 1 "$root/samples/good.txt"
 new_bank t 003701234567 "" 110 1,3,16
@@ -142,8 +146,23 @@ explained 'E 1010  batch 1, lines 2 to 9, byte ' file
 explained 'field SUOJAUSALUE of the VAR in line 7, "x"' file
 damaged 3 22 1 x
 explained 'field SUOJAUSALUE of the SUO in line 2, "x"' file
+# a newer release: longer messages over several lines, in which the rest is passed over and what is past the stated length is not
+newer=$root/samples/newer.txt
+LC_ALL=C sed -e '3s/NEW FIELD/>>SUO1281/' -e '15s/~/x/g' "$newer" >file
+for same in "$newer" file; do
+    explained 'K 1001  ESI, lines 1 to 3, byte ' "$same"
+    grep -qF 'K 1001  batch 1, lines 4 to 15, byte ' out || fail "expected a newer batch to be accepted"
+done
+LC_ALL=C sed '5s/$/x/' "$newer" >file
+explained 'E 1010  batch 1, lines 4 to 15, byte ' file
+explained 'field SANOMAPITUUS of the SUO in line 4, "150": more than blanks follows the message in its last record' file
+head -n 14 "$newer" >file
+explained 'E 1032  batch 1, lines 4 to 14, byte ' file
+explained 'a message is cut short: the VAR that begins in line 9' file
+LC_ALL=C sed '9s/^\(>>VAR500\)130/\1120/' "$newer" >file
+explained 'field SANOMAPITUUS of the VAR in line 9, "500"' file
 # however the file is read
-for file in "$root/samples/payments.txt" "$root/samples/damaged.txt" "$root/samples/batches.txt" file; do
+for file in "$newer" "$root/samples/payments.txt" "$root/samples/damaged.txt" "$root/samples/batches.txt" file; do
     cp base t
     rm -f r
     receive t "$file" r --explain >whole 2>told || [ $? -eq 1 ]
@@ -192,6 +211,10 @@ notice file 'ARVOVIRHE KENTÄSSÄ SANOMATUNNUS >>ESI' 'field SANOMATUNNUS of the
 sed '1s/$/ x/' "$root/samples/good.txt" >file
 notice file 'MUOTOVIRHE KENTÄSSÄ SANOMAPITUUS 161' 'field SANOMAPITUUS of the ESI in line 1, "161": more than blanks follows the message in its last record' \
     'field SANOMAPITUUS, "161": more than blanks follows the message in its last record. Mend'
+sed '1s/^\(>>ESI\)161\(.*\)$/\1162\2X/' "$root/samples/good.txt" >file
+notice file 'ARVOVIRHE KENTÄSSÄ SANOMAPITUUS 162' 'field SANOMAPITUUS of the ESI in line 1, "162"' "a field's value: field SANOMAPITUUS, \"162\" (a ?"
+sed '1s/^\(>>ESI\)161/\1501/' "$root/samples/good.txt" >file
+notice file 'ARVOVIRHE KENTÄSSÄ SANOMAPITUUS 501' 'field SANOMAPITUUS of the ESI in line 1, "501"' "a field's value: field SANOMAPITUUS, \"501\" (a ?"
 sed '1s/^\(>>ESI\)161/\11 1/' "$root/samples/good.txt" >file
 notice file 'MUOTOVIRHE KENTÄSSÄ SANOMAPITUUS 1 1' 'field SANOMAPITUUS of the ESI in line 1, "1 1"' "field's format: field SANOMAPITUUS, \"1 1\" (a ? may stand for"
 sed '1s/^\(.\{16\}\).\{16\}/\1                /' "$root/samples/good.txt" >file
@@ -218,12 +241,13 @@ sed '1s/^\(.\{85\}\)0/\14/' "$root/samples/good.txt" >file
 explained 'E 1013' file
 reply_of 1013
 says "make the file anew with the current key"
-for code in 1037 1034; do
+for code in 1037 1034 1032; do
     LC_ALL=C sed "s/^\(.\{12\}\)1013/\1$code/" r >r2
     mv r2 r
     reply_of $code
     case $code in
     1037) says "no changeover was ended: none runs, or the message itself used the previous key: use the current key" ;;
+    1032) says "a message is cut short. The file is damaged: send it anew; if it comes again, the message is shorter than the length that it states: mend the sending program" ;;
     *) says "64 live stamps are held, one for each accepted message: send again when stamps have become too old (on the sixth banking day after them), and put more payments into a batch" ;;
     esac
     LC_ALL=C sed "s/^\(.\{12\}\)$code/\11013/" r >r2

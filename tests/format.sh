@@ -109,7 +109,7 @@ told '/^| 28 | 1 | leave/d' "$format" 2 customerShape
 told 's/number 4  -- last day/number 8  -- last day/' "$customer" 2 customerShape
 told 's/text 16 ⊗/text 17 ⊗/' "$customer" 1 tableShape
 told 's/flag ⊗  -- leave/number 2 ⊗  -- leave/' "$customer" 2 customerShape
-told 's/^| 232 | 1 |/| 231 | 1 |/' "$format" 4 sessionShape
+told 's/^| 229 | 1 |/| 228 | 1 |/' "$format" 4 sessionShape
 told 's/number 4 ⊗  -- opening.kind/number 5 ⊗  -- opening.kind/' "$session" 4 sessionShape
 told 's/  -- ended/  -- told/' "$session" 4 sessionShape
 told 's/perhaps onceShape/onceShape/' "$session" 4 sessionShape

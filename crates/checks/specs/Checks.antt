@@ -64,10 +64,14 @@ keyOr0 (Key·Is k) = k
 
 -- ---- the checks that both orders share
 
--- 1012 version below the floor; 1021 receiver not this bank; 1033 sender unknown (qualifiers count); 1035 known but not agreed
+-- 1012: a version below 120 other than 110, or below the floor
+unfoldable pub tooOldVersion : (floor version : ℕ) → Bool
+tooOldVersion floor version = either (ltb version floor) (both (ltb version 120) (fails (eqb version 110)))
+
+-- 1012 version too old; 1021 receiver not this bank; 1033 sender unknown (qualifiers count); 1035 known but not agreed
 unfoldable pub partyChecks : Table → List ℕ → List Check
 partyChecks t m =
-    check 1012 (ltb (versionOf m) (t .settings .floor)) ∷
+    check 1012 (tooOldVersion (t .settings .floor) (versionOf m)) ∷
     check 1021 (fails (same (receiverOf m) (t .settings .bank))) ∷
     check 1033 (isUnknown (placeOf t (senderOf m))) ∷
     check 1035 (fails (named t (senderOf m) .agreed)) ∷ []

@@ -12,7 +12,8 @@ ghost use Rattle.message.specs.Order.{Check, firstFailing};
 ghost use Rattle.message.specs.Rules.{formOf, formChecks};
 ghost use Rattle.message.specs.Fields.{receiverOf, senderOf};
 ghost use Rattle.checks.specs.Checks.{checkField, typeAllowed, checksumDiffers, digestDiffers, isMissing, keyOr0, partyChecks};
-ghost use Rattle.checks.specs.Checks.{stampChecks, roomChecks, esiKeyChecks, esiChecks, pairChecks, keyChecks, frameChecks};
+ghost use Rattle.checks.specs.Checks.{tooOldVersion, stampChecks, roomChecks, esiKeyChecks, esiChecks, pairChecks, keyChecks};
+ghost use Rattle.checks.specs.Checks.{frameChecks};
 
 // A frame at its VAR's end: the two messages, the one-time key deciphered at the SUO's end, and the digest of the records between.
 pub struct Frame {
@@ -159,6 +160,19 @@ fn is_elsewhere(m: [u8; 161], bank: [u8; 25]) -> bool
     !text::same_bytes(&receiver[..width], &bank[..width])
 }
 
+// Whether a version is below the floor, or below 120 and not 110.
+fn too_old_version(floor: u32, version: u32) -> bool
+    ensures { λ r. ⌜ r ≡ tooOldVersion floor version ⌝ }
+{
+    if version < floor {
+        return true;
+    }
+    if 120 <= version {
+        return false;
+    }
+    version != 110
+}
+
 // 1012, 1021, 1033, 1035.
 fn party_faults(t: &[u8], m: [u8; 161]) -> message::Fault
     ensures { λ r. ⌜ r ≡ firstFailing (partyChecks (tableOf (now (t .entry))) m) ⌝ }
@@ -167,7 +181,11 @@ fn party_faults(t: &[u8], m: [u8; 161]) -> message::Fault
     let bank = settings.bank;
     let place = table::find(t, message::sender(m));
     let c = customer_of(t, m);
-    let below = fault_if(1012, 0, message::version(m) < settings.floor);
+    let below = fault_if(
+        1012,
+        0,
+        too_old_version(settings.floor, message::version(m)),
+    );
     let elsewhere = fault_if(1021, 0, is_elsewhere(m, bank));
     let unknown = fault_if(1033, 0, is_no_place(place));
     let unagreed = fault_if(1035, 0, !c.agreed);

@@ -90,9 +90,11 @@ would be forgotten. The settings can't be changed later.
                 every reply. Any that isn't all blank. It can't be changed
                 later. It may be the same at every bank.
   FLOOR         110 or 120: the lowest version of PATU that is taken
-                A message of a lower version is refused (E 1012). Take 110
-                while any customer sends version 110, else 120. It can't be
-                changed later. It may be the same at every bank.
+                A message of a lower version is refused (E 1012), and so is one
+                of 111 to 119. Newer ones, 121 to 999, are read by the fields
+                of 120. Take 110 while any customer sends version 110, else
+                120. It can't be changed later. It may be the same at every
+                bank.
   K             16 hex digits, 0-9 and A-F: random, secret, used once
                 The key of the key maker, which makes the working keys. Who
                 knows K and V can work these out. Make it at random:
@@ -472,5 +474,5 @@ Exit status  0  served, and every reply is K
 }
 
 pub fn version() -> bool {
-    say::out(b"lentilpot 1.1\n")
+    say::out(b"lentilpot 1.2\n")
 }

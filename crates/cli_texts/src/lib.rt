@@ -233,7 +233,7 @@ fn with_key(l: Line, sheet: Sheet, key: u64, is_at_hand: bool) -> Line {
 Mend the sending program and send anew
 1011 a field's value: |field ~f of the ~k in line ~J, ~h|field ~f, ~h (a ? may stand for what can't be shown). \
 Mend the sending program and send anew
-1012 the version is below the bank's floor|: it is ~A, the floor is ~B|: renew the sending program
+1012 the version is too old|: it is ~A, the floor is ~B (and 111 to 119 are never taken)|: renew the sending program
 1013 the transport key of that generation isn't valid on the stamp's date|: names transport key ~t|: \
 make the file anew with the current key (the previous one is good for stamps from the new one's first day to the changeover's last, and \
 for none before); the bank sees the generations and their days with 'show'
@@ -255,7 +255,8 @@ Send it anew; if it comes again, compare check values
 1026 SUO and VAR differ in |field ~f: ~u in the SUO in line ~I, ~v in the VAR in line ~K|the field that the notice names: \
 mend the sending program
 1031 the one-time key's parity is even||: mend the sending program, or another transport key was used
-1032 a message is cut short|: the ~k that begins in line ~J|. The file is damaged: send it anew
+1032 a message is cut short|: the ~k that begins in line ~J|. The file is damaged: send it anew; \
+if it comes again, the message is shorter than the length that it states: mend the sending program
 1033 no customer has this identity and qualifier||. Look at both with 'show': the qualifier counts
 1034 64 live stamps are held, one for each accepted message||: send again when stamps have become too old (on the sixth banking day \
 after them), and put more payments into a batch

@@ -56,9 +56,9 @@ fn length_by(given: u32, n: calendar::CalendarDays) -> refusals::Length
 // How many bytes a session takes.
 #[no_mangle]
 pub extern "C" fn lp_session_size() -> u32
-    ensures { λ r. ⌜ r ≡ 475 ⌝ }
+    ensures { λ r. ⌜ r ≡ 472 ⌝ }
 {
-    475
+    472
 }
 
 #[no_mangle]
@@ -162,7 +162,7 @@ pub extern "C" fn lp_order(table: &mut [u8], today: u32, who: &[u8], clock: u64)
 fn kind_asked(length: usize, kind: u32) -> u32
     ensures { λ r. ⌜ r ≡ pick (eqb length sessionSize) kind 0 ⌝ }
 {
-    if length == 475 {
+    if length == 472 {
         return kind;
     }
     0

@@ -53,6 +53,21 @@ drop-split (suc m) zero l h = absurd (not-suc-le-zero h)
 drop-split (suc m) (suc n) [] h = refl
 drop-split (suc m) (suc n) (x ∷ l) h = drop-split m n l (le-of-suc-le-suc h)
 
+-- past a place, or past the end where that comes first
+pub drop-least : (k n : ℕ) (l : List ℕ) → length l ≤ n → drop (min k n) l ≡ drop k l
+drop-least k n l h =
+    ⊎-elim (λ m. let e : min k n ≡ n = omega arith in rw e (drop-of-length-le l {i = n} h
+    ∙ sym (drop-of-length-le l {i = k} (omega arith))))
+    (λ m. let e : min k n ≡ k = omega arith in rw e)
+    (below n k)
+
+-- a list laid over zeros is the list and zeros after it
+pub over-zeros : (v : List ℕ) (n m : ℕ) → n ≤ m → take n v ++ drop (length v) (replicate n 0) ≡ take n (v ++ replicate m 0)
+over-zeros [] zero m h = refl
+over-zeros (x ∷ v) zero m h = refl
+over-zeros [] (suc n) m h = sym (take-zeros (suc n) m h)
+over-zeros (x ∷ v) (suc n) m h = ap (λ (l : List ℕ). x ∷ l) (over-zeros v n m (omega arith))
+
 -- what is over past `from`, of the k that are there
 pub some-over : (from n k : ℕ) (l : List ℕ) → k ≡ length (take n l) → from < k → take (k - from) (drop from l) ≡ drop from (take n l)
 some-over from n k l e h =

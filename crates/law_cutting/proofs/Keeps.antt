@@ -18,6 +18,7 @@ use Rattle.message.specs.declared.Collected.{Collected}
 use Rattle.reply.specs.declared.Answering.{Answering}
 use Rattle.opening.specs.declared.Opening.{Opening}
 use Rattle.whole_file.specs.WholeFile.{occasion}
+use Rattle.whole_file.proofs.Known.{known-length}
 use Rattle.session.specs.Lines.{Event, characters, recordEnds, sizePassed, eventOf, lineAfter, waited, lineEnded}
 use Rattle.session.specs.Events.{Turn, silent, replies, nothing, placed, withBatch, bareTurn, shut, heardBy, heard, collectedBy, esiDone}
 use Rattle.session.specs.Events.{suoDone, frameBy, varDone, keepsOn, esiOn, suoOn, varOn, extentBy, esiStart, suoStart, varStart, firstEnds}
@@ -137,12 +138,12 @@ opens-skipped s = record { moves = stays-empty s Outside true; opens = refl }
 
 pub opens-suo-on : (s : Session) (w : List ℕ) → Opens s (suoOn s w)
 unfolding suoOn collectedBy isCut
-opens-suo-on s w = picked (Opens s) _ _ _ (λ e. opens-on s Suo) (λ e. opens-suo s w _ refl (λ f. f .message-long))
+opens-suo-on s w = picked (Opens s) _ _ _ (λ e. opens-on s Suo) (λ e. opens-suo s w _ refl (λ f. known-length Suo _))
 
 pub opens-suo-start : (s : Session) (w : List ℕ) → Opens s (suoStart s w)
 unfolding suoStart collectedBy extentBy
 opens-suo-start s w =
-    picked (Opens s) _ _ _ (λ e. opens-suo-on s w) (λ e. opens-suo s w _ (extent-uncut Suo _) (λ f. f .message-long))
+    picked (Opens s) _ _ _ (λ e. opens-suo-on s w) (λ e. opens-suo s w _ (extent-uncut Suo _) (λ f. known-length Suo _))
 
 -- ---- a message
 
@@ -152,7 +153,7 @@ module _ (s : Session) (w : List ℕ) where
 
   esi-taken : (extent : Extent) → Keeps s w (esiDone s w (collectedBy Esi extent (s .gathered)))
   unfolding collectedBy
-  esi-taken extent = keeps-esi s w (collectedBy Esi extent (s .gathered)) (λ f. f .message-long)
+  esi-taken extent = keeps-esi s w (collectedBy Esi extent (s .gathered)) (λ f. known-length Esi _)
 
   keeps-esi-on : Keeps s w (esiOn s w)
   unfolding esiOn

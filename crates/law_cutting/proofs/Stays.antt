@@ -52,7 +52,7 @@ pub record Stays (s u : Session) : Type 0 where
   pub opening-stays : u .opening ≡ s .opening
   pub opened-stays : u .opened ≡ s .opened
   pub ended-stays : u .ended ≡ s .ended
-  pub count-stays : s .gathered .count ≤ 161 → u .gathered .count ≤ 161
+  pub count-stays : s .gathered .count ≤ 500 → u .gathered .count ≤ 500
   pub uncut-stays : isCut (s .batch .suo .extent) ≡ false → isCut (u .batch .suo .extent) ≡ false
   pub fits-stays : Fits s → Fits u
   pub line-later : Later (s .line) (u .line)
@@ -96,16 +96,16 @@ stays-then a b =
 
 -- ---- the parts
 
--- at most 161 characters are kept, in the same room
-gathered-with : (g : Gathered) (c : ℕ) → (g .count ≤ 161 → gatheredWith g c .count ≤ 161)
+-- at most 500 characters are counted, and what is kept has the same room
+gathered-with : (g : Gathered) (c : ℕ) → (g .count ≤ 500 → gatheredWith g c .count ≤ 500)
     × (length (gatheredWith g c .text) ≡ length (g .text))
 unfolding gatheredWith
 gathered-with g c =
-    picked (λ (x : Gathered). (g .count ≤ 161 → x .count ≤ 161) × (length (x .text) ≡ length (g .text))) (ltb (g .count) 161) _ _
+    picked (λ (x : Gathered). (g .count ≤ 500 → x .count ≤ 500) × (length (x .text) ≡ length (g .text))) (ltb (g .count) 161) _ _
     (λ e. (λ h. omega (arith, ltb-true (g .count) 161 e), length-set (g .text) (g .count) c))
-    (λ e. (λ h. h, refl))
+    (λ e. (λ h. omega arith, refl))
 
-gathered-all : (g : Gathered) (l : List ℕ) → (g .count ≤ 161 → gatheredAll g l .count ≤ 161)
+gathered-all : (g : Gathered) (l : List ℕ) → (g .count ≤ 500 → gatheredAll g l .count ≤ 500)
     × (length (gatheredAll g l .text) ≡ length (g .text))
 unfolding gatheredAll
 gathered-all g [] = (λ h. h, refl)
@@ -114,7 +114,7 @@ gathered-all g (c ∷ l) =
     let b = gathered-all (gatheredWith g c) l in
     (λ h. b .0 (a .0 h), b .1 ∙ a .1)
 
-pub nothing-kept : (nothing .count ≤ 161) × (length (nothing .text) ≡ 161)
+pub nothing-kept : (nothing .count ≤ 500) × (length (nothing .text) ≡ 161)
 unfolding nothing
 nothing-kept = (omega arith, length-replicate {A = ℕ} 161 0)
 
@@ -220,7 +220,7 @@ stays-heard s l =
       running-stays = batch-fits (cipherOf s) (cipher-lt s) (s .place) (s .batch) l;
     }
 
-pub stays-placed : (s : Session) (p : Place) (told : Bool) (g : Gathered) → (s .gathered .count ≤ 161 → g .count ≤ 161)
+pub stays-placed : (s : Session) (p : Place) (told : Bool) (g : Gathered) → (s .gathered .count ≤ 500 → g .count ≤ 500)
     → (Fits s → length (g .text) ≡ 161)
     → Stays s (placed s p told g)
 unfolding placed

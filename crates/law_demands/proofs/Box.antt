@@ -2,7 +2,7 @@
 -- a box's calls have their arguments, answers and replies, and its sessions come back from bytes.
 -- Assumes nothing.
 use Prim.Native.Nat.{ℕ}
-use mathlib.Core.Path.{_≡_, refl, sym, ap, _∙_, subst}
+use mathlib.Core.Path.{_≡_, refl, sym, ap, ap₂, _∙_, subst}
 use mathlib.Core.Bool.{Bool, true, false}
 use mathlib.Core.List.{List, _∷_, map}
 use native.Mathlib.Omega.{arith}
@@ -11,11 +11,12 @@ use lib.Dec.{eqb}
 use lib.ListN.{length}
 use Rattle.ground.specs.Choice.{pick, between}
 use Rattle.ground.proofs.Choices.{left, picks}
-use Rattle.table.specs.Table.{withDay}
+use Rattle.table.specs.Table.{Table, withDay}
 use Rattle.table.specs.Written.{written}
 use Rattle.table.specs.Decode.{tableOf}
 use Rattle.opening.specs.declared.Opening.{Opening}
-use Rattle.whole_file.specs.WholeFile.{wholeFile}
+use Rattle.whole_file.specs.Records.{Item, itemsOf}
+use Rattle.whole_file.specs.WholeFile.{Given, Told, toldOf, atStart, wholeFile}
 use Rattle.session.specs.Ranges.{Encodes, inRange}
 use Rattle.session.specs.declared.Session.{Session}
 use Rattle.session_bytes.specs.Session.{sessionSize, sessionBytes, isSession, sessionIn}
@@ -25,7 +26,7 @@ use Rattle.calls.specs.Reading.{Done, refusedBy, openingAnswer, openingGives, o
 use Rattle.calls.specs.Calls.{refusalOf, leftBy}
 use Rattle.law_history.specs.History.{allDifferent}
 use Rattle.law_history.proofs.NoTwice
-use Rattle.law_protocol.specs.Protocol.{Runs}
+use Rattle.law_protocol.specs.Protocol.{Saw, Runs}
 use Rattle.law_protocol.proofs.Opened.{opening-served}
 use Rattle.edge.specs.Edge.{openingBy, refusalIn, readBy, endBy}
 use Rattle.edge.specs.Box.{BoxCall, lpSetUp, lpOpen, lpRead, lpEnd, callOf, boxAnswer, boxTable, boxSession, boxRoom, Words}
@@ -36,11 +37,13 @@ use Rattle.law_edge.proofs.Sessions.{read-encodes, end-encodes, opening-encodes
 use Rattle.law_edge.proofs.Replies.{read-seen, end-seen, replies-seen, all-typed}
 use Rattle.law_edge.proofs.Running.{runs-of, runs-to}
 use Rattle.law_demands.specs.Demands.{BoxNoStampTwice, broughtBy, BoxAnyCuts, BoxRunsExist, BoxTakenApart, BoxNoSecond}
-use Rattle.law_demands.specs.Demands.{BoxUntouched, BoxRefusedStays, BoxShowsFault, Back, BoxSessionsBack}
+use Rattle.law_demands.specs.Demands.{BoxUntouched, BoxRefusedStays, BoxRestUnseen, BoxShowsFault, Back, BoxSessionsBack}
+use Rattle.law_demands.specs.Rest.{itemsBlanked}
 use Rattle.law_demands.proofs.Refusals.{refused-stays, refused-read-stays, refused-end-stays}
 use Rattle.law_demands.proofs.Seen.{calls-show-fault}
 use Rattle.law_demands.proofs.Ranges.{sessions-in-range}
 use Rattle.law_demands.proofs.Cuts.{any-cuts, runs-exist}
+use Rattle.law_demands.proofs.Passed.{rest-unseen}
 
 -- ---- a refused call
 
@@ -173,6 +176,28 @@ box-runs-exist b session today time kind clock file sizes rooms words z some h =
       runs-to (x .3) (boxSession b (lpOpen session today time kind clock)) (session-long b session today time kind clock words z)
           (session-says b session today time kind clock words z),
     )
+
+-- ---- what is passed over
+
+-- files that are alike but for it have one answer
+alike-told : (o : Opening) (t : Table) (file other : List ℕ) → length other ≡ length file
+    → itemsBlanked o (atStart t) (itemsOf other) ≡ itemsBlanked o (atStart t) (itemsOf file)
+    → (wholeFile o t other .given ≡ wholeFile o t file .given) × (wholeFile o t other .standing .table ≡ wholeFile o t file .standing .table)
+unfolding wholeFile
+alike-told o t file other n e =
+    let p = rest-unseen o t (length other) (itemsOf other) in
+    let q = rest-unseen o t (length file) (itemsOf file) in
+    let s : toldOf o (length other) (atStart t) (itemsBlanked o (atStart t) (itemsOf other))
+    ≡ toldOf o (length file) (atStart t) (itemsBlanked o (atStart t) (itemsOf file)) =
+    ap₂ (λ (k : ℕ) (x : List Item). toldOf o k (atStart t) x) n e in
+    (sym (p .0) ∙ ap (λ (x : Told). x .given) s ∙ q .0, sym (p .1) ∙ ap (λ (x : Told). x .standing .table) s ∙ q .1)
+
+pub box-rest-unseen : BoxRestUnseen
+box-rest-unseen b session today time kind clock file other ks js rooms others l m words z n e r s =
+    let a = alike-told (broughtBy today time kind clock) (withDay (tableOf b) today) file other n e in
+    box-any-cuts b session today time kind clock other js others m words z s
+    ∙ ap₂ {C = Saw} (λ (g : List Given) (t : Table). record { given = g; table = written b t }) (a .0) (a .1)
+    ∙ sym (box-any-cuts b session today time kind clock file ks rooms l words z r)
 
 -- ---- the number taken apart
 

@@ -8,5 +8,7 @@ pub mod Stays
 pub mod Ranges
 pub mod Rooms
 pub mod Cuts
+pub mod Blanked
+pub mod Passed
 pub mod Second
 pub mod Box

@@ -40,8 +40,10 @@ use Rattle.reply.specs.Reply.{clockText, noticeOf, replyOf}
 use Rattle.reply.specs.declared.Answering.{Answering}
 use Rattle.answers.specs.Answers.{bareAnswer, verdictAnswer}
 use Rattle.opening.specs.declared.Opening.{Opening}
+use Rattle.whole_file.specs.Records.{Item, itemsOf}
 use Rattle.whole_file.specs.Messages.{begins}
-use Rattle.whole_file.specs.WholeFile.{Opened, Standing, Step, occasion, esiEnds, frameOf, varEnds, firstRecord, outsideRecord, wholeFile}
+use Rattle.whole_file.specs.WholeFile.{Opened, Standing, Step, occasion, esiEnds, frameOf, varEnds, firstRecord, outsideRecord, toldOf, atStart}
+use Rattle.whole_file.specs.WholeFile.{wholeFile}
 use Rattle.session.specs.Ranges.{Fits, inRange}
 use Rattle.session.specs.declared.Session.{Session}
 use Rattle.calls.specs.Reading.{Done, openingRefusals, openingAnswer, openingGives, openingLeaves, readingRefusals, endingRefusals}
@@ -61,6 +63,7 @@ use Rattle.edge.specs.Box.{MeetsBox}
 use Rattle.edge.specs.Box.{boxRoom, Words, AllWords}
 use Rattle.law_edge.specs.TakenApart.{Apart}
 use Rattle.law_edge.specs.BoxRuns.{BoxRuns}
+use Rattle.law_demands.specs.Rest.{itemsBlanked}
 
 -- ---- DEMAND 1: a call that can't be served gives one of document 01's numbered refusals and changes nothing lent to it
 
@@ -404,6 +407,13 @@ RunsExist = (b : List ℕ) (o : Opening) (file : List ℕ) (sizes : ℕ → ℕ)
     → (n : ℕ) × (m : ℕ) × (l : Saw)
     × Runs (readsFrom n 0 sizes rooms) (roomsFrom m n rooms) 0 (openingGives b o .session) (openingLeaves b o) file l
 
+-- The rest is passed over: for any records, with blanks in place of all characters between a message's layout's length and its stated one,
+-- the replies, their places and the table at the end are the same.
+abbrev pub RestUnseen : Type 0
+RestUnseen = (o : Opening) (t : Table) (size : ℕ) (l : List Item)
+    → (toldOf o size (atStart t) (itemsBlanked o (atStart t) l) .given ≡ toldOf o size (atStart t) l .given)
+    × (toldOf o size (atStart t) (itemsBlanked o (atStart t) l) .standing .table ≡ toldOf o size (atStart t) l .standing .table)
+
 -- ---- No second answer: two (answer, buffers) that meet a call's contract,
 -- the record that the public function promises, at the same arguments are equal
 
@@ -492,6 +502,18 @@ BoxRunsExist = (b session : List ℕ) (today time kind clock : ℕ) (file : List
     (boxTable b (lpOpen session today time kind clock))
     file
     l
+
+-- Two files of one length whose records are the same but for what is passed over, each cut as it likes:
+-- the same replies, at the same places, and the same table.
+abbrev pub BoxRestUnseen : Type 0
+BoxRestUnseen = (b session : List ℕ) (today time kind clock : ℕ) (file other : List ℕ) (ks js : List Lent) (rooms others : List (List ℕ))
+    (l m : Saw) → Words (lpOpen session today time kind clock) → boxAnswer b (lpOpen session today time kind clock) ≡ 0
+    → length other ≡ length file
+    → itemsBlanked (broughtBy today time kind clock) (atStart (withDay (tableOf b) today)) (itemsOf other)
+    ≡ itemsBlanked (broughtBy today time kind clock) (atStart (withDay (tableOf b) today)) (itemsOf file)
+    → BoxRuns ks rooms 0 (boxSession b (lpOpen session today time kind clock)) (boxTable b (lpOpen session today time kind clock)) file l
+    → BoxRuns js others 0 (boxSession b (lpOpen session today time kind clock)) (boxTable b (lpOpen session today time kind clock)) other m
+    → m ≡ l
 
 -- The number that lp_read and lp_end return, taken apart as include/lentilpot.h does,
 -- says what was answered, served or refused, on any bytes.

@@ -1,2 +1,3 @@
 -- The statements.
+pub mod Rest
 pub mod Demands

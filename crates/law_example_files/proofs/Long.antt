@@ -28,11 +28,13 @@ use Rattle.table.specs.Table.{previousFits, customerFits, settingsFit, rising, 
 use Rattle.table.specs.Table.{placeOf, nobody, customerIn, withCustomer, withAdded, withDay, withSeed}
 use Rattle.message.specs.Layout.{total, offsetIn, widthIn, nameIn, fieldText, layout, layoutLength}
 use Rattle.message.specs.Order.{firstFailing}
-use Rattle.message.specs.Rules.{hexFields, formatHolds, oneOf, methods, commonRules, ownRules, obeys, isShort, formatFails, valueFails}
+use Rattle.message.specs.Rules.{hexFields, formatHolds, oneOf, methods, isExact, lengthRules, commonRules, ownRules, obeys}
+use Rattle.message.specs.Rules.{isShort, formatFails, valueFails}
 use Rattle.message.specs.Rules.{eachField, formChecks}
 use Rattle.message.specs.Fields.{receiverOf, senderOf, stampTextOf, stampOf, dateOfStamp, versionOf, methodOf, transportGenerationOf}
 use Rattle.message.specs.Fields.{workingGenerationOf, onceFieldOf, digestFieldOf, checksumFieldOf, requestOf}
-use Rattle.checks.specs.Checks.{typeAllowed, checksumDiffers, digestDiffers, isMissing, keyOr0, partyChecks, stampChecks, roomChecks}
+use Rattle.checks.specs.Checks.{typeAllowed, checksumDiffers, digestDiffers, isMissing, keyOr0, tooOldVersion, partyChecks, stampChecks}
+use Rattle.checks.specs.Checks.{roomChecks}
 use Rattle.checks.specs.Checks.{esiKeyChecks, typeChecks, esiChecks, pairChecks, keyChecks, frameChecks}
 use Rattle.verdict.specs.Outcomes.{grantTo, recordAfter, tableAfter, outcomeOf, isSound, tableBy, esiOutcome, esiTable, frameOutcome}
 use Rattle.verdict.specs.Outcomes.{frameTable, storedAt, bytesAfter, bytesBy, esiLeaves, frameLeaves}
@@ -44,10 +46,11 @@ use Rattle.answers.specs.Answers.{bareAnswer, fullAnswer, verdictAnswer}
 use Rattle.whole_file.specs.WholeFile.{moved, silent, replies, esiSays, pteSays, occasion, afterEsi, esiEnds, suoEnds, frameOf, varEnds}
 use Rattle.whole_file.specs.WholeFile.{esiGoesOn, suoGoesOn, varGoesOn, esiStarts, suoStarts, varStarts, firstRecord, outsideRecord}
 use Rattle.whole_file.specs.WholeFile.{withRecord, frameRecord, recordIn, pastIn, endIn, givenAt, sooner, toldOf, atStart, wholeFile}
-use Rattle.whole_file.specs.Messages.{begins, extentOf, isWhole, wantsMore, collectedAs, oneTime, transportHeld, oneTimeOf, onceOf}
+use Rattle.whole_file.specs.Messages.{begins, extentOf, isWhole, wantedLength, wantsMore, knownText, collectedAs, oneTime, transportHeld}
+use Rattle.whole_file.specs.Messages.{oneTimeOf, onceOf}
 use Rattle.whole_file.specs.Records.{withoutCr, lastItem, grown, endedBy, itemsFrom}
 use Rattle.law_examples.specs.Bank.{bankWith, esi, suo, var}
-use Rattle.law_example_files.specs.Files.{hello, shown, answers, line, goesOn, lateStanding, lateAnswers}
+use Rattle.law_example_files.specs.Files.{hello, shown, answers, line, stating, goesOn, lateStanding, lateAnswers}
 use Rattle.law_examples.specs.Examples.{holdAll}
 use Rattle.law_example_files.specs.Files.{longFiles}
 
@@ -61,18 +64,18 @@ unfolding all member same part overlay both either fails pick one between letter
     previousNamed heldKey previousGood goodFor changing changed withKeys withTransport withWorking withoutPrevious firstThat onAcceptance
     grantedBy holdsStamp liveOf onceUsed withStamp customerAt replacedAt withNamed previousFits customerFits settingsFit
     rising placeFrom isUnknown distinct eachSound soundTable placeOf nobody customerIn withCustomer withAdded withDay withSeed total
-    offsetIn widthIn nameIn fieldText layout layoutLength hexFields formatHolds oneOf methods commonRules ownRules obeys isShort
+    offsetIn widthIn nameIn fieldText layout layoutLength hexFields formatHolds oneOf methods isExact lengthRules commonRules ownRules obeys isShort
     formatFails valueFails eachField formChecks receiverOf senderOf stampTextOf stampOf dateOfStamp versionOf methodOf
     transportGenerationOf workingGenerationOf onceFieldOf digestFieldOf checksumFieldOf requestOf firstFailing typeAllowed
-    checksumDiffers digestDiffers isMissing keyOr0 partyChecks stampChecks roomChecks esiKeyChecks typeChecks esiChecks pairChecks
+    checksumDiffers digestDiffers isMissing keyOr0 tooOldVersion partyChecks stampChecks roomChecks esiKeyChecks typeChecks esiChecks pairChecks
     keyChecks frameChecks grantTo recordAfter tableAfter outcomeOf isSound tableBy esiOutcome esiTable frameOutcome frameTable storedAt
     bytesAfter bytesBy esiLeaves frameLeaves contentsAs heldIn atFault codeIn fieldName shownByte valueText textOf clockText noticeOf hexOr
     sealed sealedFlag joined head summed checksumKey enclosedKey replyOf replyLength replied writtenLength bareAnswer fullAnswer
     verdictAnswer moved
     silent replies esiSays pteSays occasion afterEsi esiEnds suoEnds frameOf varEnds esiGoesOn suoGoesOn varGoesOn esiStarts suoStarts
     varStarts firstRecord outsideRecord withRecord frameRecord recordIn pastIn endIn givenAt sooner toldOf atStart wholeFile begins
-    Rattle.whole_file.specs.Messages.textOf extentOf isWhole wantsMore collectedAs oneTime transportHeld oneTimeOf onceOf withoutCr
-    lastItem grown endedBy itemsFrom bankWith esi suo var shown answers line goesOn lateStanding lateAnswers holdAll
+    wantedLength knownText extentOf isWhole wantsMore collectedAs oneTime transportHeld oneTimeOf onceOf withoutCr
+    lastItem grown endedBy itemsFrom bankWith esi suo var shown answers line stating goesOn lateStanding lateAnswers holdAll
     Rattle.table.specs.Named.named Rattle.law_example_files.specs.Files.opening hello
     Rattle.law_example_files.specs.Files.replied
 long-files = refl

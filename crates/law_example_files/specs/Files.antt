@@ -71,6 +71,10 @@ earlyFiles =
     answers (line ">>ESI1X1120") (12 ∷ 237 ∷ 1010 ∷ []) ∷
     answers (line ">>ESI160120") (12 ∷ 237 ∷ 1011 ∷ []) ∷
     answers (line ">>ESI161120") (12 ∷ 237 ∷ 1032 ∷ []) ∷
+    -- a length from the layout's to 500 is collected, and here cut short; 501 is not
+    answers (line ">>ESI162120") (12 ∷ 237 ∷ 1032 ∷ []) ∷
+    answers (line ">>ESI500999") (12 ∷ 237 ∷ 1032 ∷ []) ∷
+    answers (line ">>ESI501999") (12 ∷ 237 ∷ 1011 ∷ []) ∷
     answers (letters ">>ESI161120" ++ replicate 150 blank ++ letters "X") (162 ∷ 237 ∷ 1010 ∷ []) ∷
     -- any other first record, a SUO too
     answers (line ">>SUO128120" ++ line ">>ESI161120") (12 ∷ 237 ∷ 1010 ∷ []) ∷
@@ -84,6 +88,10 @@ earlyFiles =
     notices (letters ">>ESI161120" ++ replicate 150 blank ++ letters "X") "MUOTOVIRHE KENTÄSSÄ SANOMAPITUUS 161" ∷ []
 
 -- ---- after it
+
+-- that ESI with another length and version
+unfoldable pub stating : String → List ℕ
+stating text = take 5 esi ++ letters text ++ drop 11 esi
 
 -- a file that begins with that ESI, which is accepted: 1001 after 162 bytes
 unfoldable pub goesOn : List ℕ → List ℕ → Bool
@@ -106,6 +114,13 @@ laterFiles =
     answers (esi ++ (cr ∷ lf ∷ [])) (163 ∷ 237 ∷ 1001 ∷ []) ∷
     answers (esi ++ (cr ∷ cr ∷ lf ∷ [])) (164 ∷ 237 ∷ 1010 ∷ []) ∷
     answers (esi ++ (cr ∷ [])) (162 ∷ 237 ∷ 1010 ∷ []) ∷
+    -- a newer release: judged by its known fields, of which only the checksum is another; what lies past the stated length must be blank;
+    -- 120 has an exact length, 115 is too old
+    answers (stating "163130" ++ letters "?~" ++ (lf ∷ [])) (164 ∷ 237 ∷ 1020 ∷ []) ∷
+    answers (stating "163130" ++ letters "?~ X" ++ (lf ∷ [])) (166 ∷ 237 ∷ 1010 ∷ []) ∷
+    answers (stating "163130" ++ letters "?") (162 ∷ 237 ∷ 1032 ∷ []) ∷
+    answers (stating "163120" ++ letters "?~" ++ (lf ∷ [])) (164 ∷ 237 ∷ 1011 ∷ []) ∷
+    answers (stating "163115" ++ letters "?~" ++ (lf ∷ [])) (164 ∷ 237 ∷ 1012 ∷ []) ∷
     -- a message over several records, and blanks over in the last one
     answers (take 80 esi ++ (lf ∷ []) ++ drop 80 esi ++ letters "  " ++ (lf ∷ [])) (165 ∷ 237 ∷ 1001 ∷ []) ∷ []
 

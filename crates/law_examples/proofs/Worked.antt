@@ -28,11 +28,13 @@ use Rattle.table.specs.Table.{previousFits, customerFits, settingsFit, rising, 
 use Rattle.table.specs.Table.{placeOf, nobody, customerIn, withCustomer, withAdded, withDay, withSeed}
 use Rattle.message.specs.Layout.{total, offsetIn, widthIn, nameIn, fieldText, layout, layoutLength}
 use Rattle.message.specs.Order.{firstFailing}
-use Rattle.message.specs.Rules.{hexFields, formatHolds, oneOf, methods, commonRules, ownRules, obeys, isShort, formatFails, valueFails}
+use Rattle.message.specs.Rules.{hexFields, formatHolds, oneOf, methods, isExact, lengthRules, commonRules, ownRules, obeys}
+use Rattle.message.specs.Rules.{isShort, formatFails, valueFails}
 use Rattle.message.specs.Rules.{eachField, formChecks}
 use Rattle.message.specs.Fields.{receiverOf, senderOf, stampTextOf, stampOf, dateOfStamp, versionOf, methodOf, transportGenerationOf}
 use Rattle.message.specs.Fields.{workingGenerationOf, onceFieldOf, digestFieldOf, checksumFieldOf, requestOf}
-use Rattle.checks.specs.Checks.{typeAllowed, checksumDiffers, digestDiffers, isMissing, keyOr0, partyChecks, stampChecks, roomChecks}
+use Rattle.checks.specs.Checks.{typeAllowed, checksumDiffers, digestDiffers, isMissing, keyOr0, tooOldVersion, partyChecks, stampChecks}
+use Rattle.checks.specs.Checks.{roomChecks}
 use Rattle.checks.specs.Checks.{esiKeyChecks, typeChecks, esiChecks, pairChecks, keyChecks, frameChecks}
 use Rattle.verdict.specs.Outcomes.{grantTo, recordAfter, tableAfter, outcomeOf, isSound, tableBy, esiOutcome, esiTable, frameOutcome}
 use Rattle.verdict.specs.Outcomes.{frameTable, storedAt, bytesAfter, bytesBy, esiLeaves, frameLeaves}
@@ -49,10 +51,10 @@ unfolding all member same part overlay both either fails pick one between letter
     heldKey previousGood goodFor changing changed withKeys withTransport withWorking withoutPrevious firstThat onAcceptance
     grantedBy holdsStamp liveOf onceUsed withStamp customerAt replacedAt withNamed previousFits customerFits settingsFit rising
     placeFrom isUnknown distinct eachSound soundTable placeOf nobody customerIn withCustomer withAdded withDay withSeed total offsetIn
-    widthIn nameIn fieldText layout layoutLength firstFailing hexFields formatHolds oneOf methods commonRules ownRules obeys isShort
+    widthIn nameIn fieldText layout layoutLength firstFailing hexFields formatHolds oneOf methods isExact lengthRules commonRules ownRules obeys isShort
     formatFails valueFails eachField formChecks receiverOf senderOf stampTextOf stampOf dateOfStamp versionOf methodOf
     transportGenerationOf workingGenerationOf onceFieldOf digestFieldOf checksumFieldOf requestOf typeAllowed checksumDiffers
-    digestDiffers isMissing keyOr0 partyChecks stampChecks roomChecks esiKeyChecks typeChecks esiChecks pairChecks keyChecks frameChecks
+    digestDiffers isMissing keyOr0 tooOldVersion partyChecks stampChecks roomChecks esiKeyChecks typeChecks esiChecks pairChecks keyChecks frameChecks
     grantTo recordAfter tableAfter outcomeOf isSound tableBy esiOutcome esiTable frameOutcome frameTable storedAt bytesAfter bytesBy
     esiLeaves frameLeaves bankWith esi codeOn holdAll Rattle.table.specs.Named.named Rattle.des.specs.Des.named
 worked = refl

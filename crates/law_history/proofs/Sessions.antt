@@ -10,6 +10,7 @@ use Rattle.message.specs.declared.Extent.{Extent}
 use Rattle.message.specs.declared.Kind.{Kind}
 use Rattle.message.specs.declared.Collected.{Collected}
 use Rattle.opening.specs.declared.Opening.{Opening}
+use Rattle.whole_file.proofs.Known.{known-length}
 use Rattle.session.specs.Events.{heardBy, heard, nothing, placed, withBatch, collectedBy, keepsOn, suoDone, suoOn, suoStart, dataTaken}
 use Rattle.session.specs.Machine.{withLine}
 use Rattle.session.specs.Ranges.{Fits}
@@ -76,4 +77,4 @@ module _ (o : Opening) {made : ℕ} (s : Session) (a : Of o made s) where
   -- what was gathered has its length, whatever becomes of it
   pub collected-length : (kind : Kind) (extent : Extent) → length (collectedBy kind extent (s .gathered) .text) ≡ 161
   unfolding collectedBy
-  collected-length kind extent = a .fits .message-long
+  collected-length kind extent = known-length kind _

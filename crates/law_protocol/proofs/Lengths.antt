@@ -24,6 +24,7 @@ use Rattle.answers.specs.Answers.{bareAnswer, fullAnswer, verdictAnswer}
 use Rattle.opening.specs.declared.Opening.{Opening}
 use Rattle.whole_file.specs.WholeFile.{occasion}
 use Rattle.session.specs.Lines.{Event, characters, recordEnds, sizePassed, eventOf, lineAfter, waited, lineEnded}
+use Rattle.whole_file.proofs.Known.{known-length}
 use Rattle.session.specs.Events.{Turn, noReply, silent, replies, bareTurn, heard, collectedBy, esiDone, frameBy, varDone, esiOn, varOn}
 use Rattle.session.specs.Events.{extentBy, esiStart, varStart, firstEnds, outsideEnds, frameEnds, collectingEnds, endsIn, recordEnded}
 use Rattle.session.specs.Events.{passedIn, passed, cutShort, finishedIn, fileEnded}
@@ -106,7 +107,7 @@ module _ (s : Session) (w : List ℕ) (r : Rests s w) where
   unfolding esiDone collectedBy occasion
   esi-long extent =
       let m = collectedBy Esi extent (s .gathered) in
-      let l = r .fits .message-long in
+      let l = known-length Esi _ in
       replies-long _ _ (verdict-long _ (s .opening) false _ _ _
       (esi-still w (occasion (s .opening) (s .made)) m (r .table) (r .real) l .is-table) l l)
 
@@ -115,7 +116,7 @@ module _ (s : Session) (w : List ℕ) (r : Rests s w) where
   var-long extent =
       let f = frameBy s (collectedBy Var extent (s .gathered)) in
       let k = frame-still w (occasion (s .opening) (s .made)) f (r .table) (r .real) (r .fits .suo-long) (r .fits .key-fits) in
-      replies-long _ _ (verdict-long _ (s .opening) true _ _ _ (k .is-table) (r .fits .suo-long) (r .fits .message-long))
+      replies-long _ _ (verdict-long _ (s .opening) true _ _ _ (k .is-table) (r .fits .suo-long) (known-length Var _))
 
   esi-on-long : Speaks (esiOn s w)
   unfolding esiOn

@@ -16,10 +16,9 @@ use Rattle.message.specs.declared.Collected.{Collected}
 use Rattle.reply.specs.declared.Answering.{Answering}
 use Rattle.answers.specs.Answers.{bareAnswer}
 use Rattle.opening.specs.declared.Opening.{Opening}
-use Rattle.whole_file.specs.Messages.{wantsMore}
 use Rattle.session.specs.Lines.{waited, lineEnded}
 use Rattle.session.specs.Events.{Turn, silent, replies, nothing, placed, withBatch, judged, bareTurn, shut, heardBy, heard, gatheredAll}
-use Rattle.session.specs.Events.{held, placeAfterEsi, esiDone, suoDone, varDone, keepsOn, esiOn, suoOn, varOn, esiStart, suoStart, varStart}
+use Rattle.session.specs.Events.{wants, placeAfterEsi, esiDone, suoDone, varDone, keepsOn, esiOn, suoOn, varOn, esiStart, suoStart, varStart}
 use Rattle.session.specs.Events.{firstEnds, outsideEnds, frameEnds, collectingEnds, endsIn, recordEnded, cutShort, finishedIn, fileEnded}
 use Rattle.session.specs.Events.{isDue}
 use Rattle.session.specs.Machine.{withLine, isBegun, lastEnded}
@@ -54,7 +53,7 @@ due-given s w = given-in (s .place) s w
 -- no CR waits; data with nothing on its way, or a SUO that wants more
 data Left (u : Session) : Type 0 where
   in-data : u .line .cr ≡ false → u .place ≡ InData → u .gathered .count ≡ 0 → Left u
-  in-suo : u .line .cr ≡ false → u .place ≡ Collecting Suo → wantsMore Suo (held (u .gathered)) ≡ true → Left u
+  in-suo : u .line .cr ≡ false → u .place ≡ Collecting Suo → wants (u .gathered) ≡ true → Left u
 
 abbrev Leaves : Turn → Type 0
 Leaves x = x .out .reply .given ≡ true → isDue (x .out .session .place) ≡ true → Left (x .out .session)
@@ -100,7 +99,7 @@ module _ (s : Session) (w : List ℕ) (c : s .line .cr ≡ false) where
   unfolding suoDone placed withBatch nothing
   suo-left m = in-data c refl refl
 
-  on-left : wantsMore Suo (held (s .gathered)) ≡ true → Left (keepsOn s Suo)
+  on-left : wants (s .gathered) ≡ true → Left (keepsOn s Suo)
   unfolding keepsOn placed
   on-left e = in-suo c refl e
 
@@ -191,7 +190,7 @@ next-silent n u t v e a b =
     }
 
 -- the SUO on its way, met with the file's end
-suo-again : (s : Session) (v : List ℕ) → s .place ≡ Collecting Suo → wantsMore Suo (held (s .gathered)) ≡ true
+suo-again : (s : Session) (v : List ℕ) → s .place ≡ Collecting Suo → wants (s .gathered) ≡ true
     → recordEnded s v ≡ silent (keepsOn s Suo) v
 unfolding recordEnded endsIn collectingEnds suoOn
 suo-again s v p e = ap (λ (q : Place). endsIn q s v) p ∙ ap (λ (t : Session). silent t v) (picks {A = Session} _ _ _ e)
@@ -207,11 +206,11 @@ next-data u v c p g =
     subst (Next u v) (sym (skips {A = Turn} _ _ _ (either-none _ _ c (ap (ltb 0) g))))
     (next-silent 1024 u (awaits u) v refl (data-bare (awaits u) v p) (data-bare u v p))
 
-next-suo : (u : Session) (v : List ℕ) → u .line .cr ≡ false → u .place ≡ Collecting Suo → wantsMore Suo (held (u .gathered)) ≡ true
+next-suo : (u : Session) (v : List ℕ) → u .line .cr ≡ false → u .place ≡ Collecting Suo → wants (u .gathered) ≡ true
     → Next u v (lastEnded (awaits u) v)
 unfolding lastEnded awaits withLine heard heardBy keepsOn placed
 next-suo u v c p e =
-    let m = ap (λ (g : Gathered). wantsMore Suo (held g)) (waited-none (u .gathered) (u .line .cr) c) ∙ e in
+    let m = ap wants (waited-none (u .gathered) (u .line .cr) c) ∙ e in
     picked (Next u v) _ _ _
     (λ t. subst (Next u v) (sym (suo-again _ v p m)) (next-silent 1032 u _ v refl (suo-bare _ v refl) (suo-bare u v p)))
     (λ t. next-silent 1032 u (awaits u) v refl (suo-bare (awaits u) v p) (suo-bare u v p))

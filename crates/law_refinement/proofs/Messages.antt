@@ -29,7 +29,7 @@ use Rattle.whole_file.specs.Messages.{extentOf, isWhole, wantsMore, collectedAs
 use Rattle.whole_file.specs.WholeFile.{Opened, Situation, collectingEsi, collectingSuo, collectingVar, closed, Standing, Step, moved}
 use Rattle.whole_file.specs.WholeFile.{silent as stays, replies as tells, esiSays, pteSays, occasion, afterEsi, esiEnds, suoEnds, frameOf}
 use Rattle.whole_file.specs.WholeFile.{varEnds, esiGoesOn, suoGoesOn, varGoesOn, esiStarts, suoStarts, varStarts}
-use Rattle.session.specs.Events.{Turn, silent, replies, placed, withBatch, judged, shut, bareTurn, nothing, held, collectedBy}
+use Rattle.session.specs.Events.{Turn, silent, replies, placed, withBatch, judged, shut, bareTurn, nothing, wants, collectedBy}
 use Rattle.session.specs.Events.{placeAfterEsi, esiDone, suoDone, frameBy, varDone, keepsOn, esiOn, suoOn, varOn, extentBy, esiStart}
 use Rattle.session.specs.Events.{suoStart, varStart}
 use Rattle.session.specs.Told.{saidBy}
@@ -208,11 +208,11 @@ module _ (o : Opening) (w₀ : List ℕ) (n : ℕ) where
       more : s .gathered ≡ gatheredOf (l ++ [])
       more = g ∙ ap gatheredOf (sym (append-nil l))
 
-      keeps-esi : wantsMore Esi l ≡ true → Hears o w₀ n (moved st (collectingEsi l)) [] (keepsOn s Esi) w
+      keeps-esi : wantsMore l ≡ true → Hears o w₀ n (moved st (collectingEsi l)) [] (keepsOn s Esi) w
       unfolding moved keepsOn placed digested
       keeps-esi t = carries (collectingEsi l) (keepsOn s Esi) refl refl refl (omega arith) (refl, more, t)
 
-      keeps-suo : wantsMore Suo l ≡ true → Hears o w₀ n (moved st (collectingSuo l)) [] (keepsOn s Suo) w
+      keeps-suo : wantsMore l ≡ true → Hears o w₀ n (moved st (collectingSuo l)) [] (keepsOn s Suo) w
       unfolding moved keepsOn placed digested
       keeps-suo t = carries (collectingSuo l) (keepsOn s Suo) refl refl refl (omega arith) (refl, more, t)
 
@@ -224,8 +224,8 @@ module _ (o : Opening) (w₀ : List ℕ) (n : ℕ) where
       collected : (kind : Kind) (a b : Extent) → a ≡ b → collectedBy kind a (s .gathered) ≡ collectedAs kind b l
       collected kind a b p = Gathers.collected-is (s .gathered) l g kind a b p
 
-      wants : (kind : Kind) → wantsMore kind (held (s .gathered)) ≡ wantsMore kind l
-      wants kind = Gathers.wants-is (s .gathered) l g kind
+      wants-same : wants (s .gathered) ≡ wantsMore l
+      wants-same = Gathers.wants-is (s .gathered) l g
 
       extent : (kind : Kind) → extentBy kind s ≡ extentOf kind l
       unfolding extentBy
@@ -237,7 +237,7 @@ module _ (o : Opening) (w₀ : List ℕ) (n : ℕ) where
       pub esi-on : Answers o w₀ n (s .line) (esiGoesOn o st l) (esiOn s w)
       unfolding esiGoesOn esiOn
       esi-on =
-          by-test (s .line) (λ (y : Turn). y) _ _ _ _ _ _ (wants Esi) (λ t. quiet _ _ w (s .line) (keeps-esi t) (keeps-line Esi))
+          by-test (s .line) (λ (y : Turn). y) _ _ _ _ _ _ wants-same (λ t. quiet _ _ w (s .line) (keeps-esi t) (keeps-line Esi))
           (λ t. esi-done d _ _ (collected Esi Whole Whole refl) (Gathers.collected-long Esi Whole l))
 
       pub esi-starts : Answers o w₀ n (s .line) (esiStarts o st l) (esiStart s w)
@@ -249,7 +249,7 @@ module _ (o : Opening) (w₀ : List ℕ) (n : ℕ) where
       pub suo-on : Answers o w₀ n (s .line) (suoGoesOn st l) (silent (suoOn s w) w)
       unfolding suoGoesOn suoOn
       suo-on =
-          by-test (s .line) (λ (y : Session). silent y w) _ _ _ _ _ _ (wants Suo)
+          by-test (s .line) (λ (y : Session). silent y w) _ _ _ _ _ _ wants-same
           (λ t. quiet _ _ w (s .line) (keeps-suo t) (keeps-line Suo))
           (λ t. suo-done d _ _ (collected Suo Whole Whole refl) (Gathers.collected-long Suo Whole l))
 
@@ -260,14 +260,14 @@ module _ (o : Opening) (w₀ : List ℕ) (n : ℕ) where
           (λ t. suo-done d _ _ (collected Suo _ _ (extent Suo)) (Gathers.collected-long Suo _ l))
 
       module _ (f : Opened) (kept : Kept f (s .batch)) (fits : FrameFits f) (few : sizeOf (f .records) ≤ n) (small : n < 2 ^ 64) where
-        keeps-var : wantsMore Var l ≡ true → Hears o w₀ n (moved st (collectingVar l f)) [] (keepsOn s Var) w
+        keeps-var : wantsMore l ≡ true → Hears o w₀ n (moved st (collectingVar l f)) [] (keepsOn s Var) w
         unfolding moved keepsOn placed digested
         keeps-var t = carries (collectingVar l f) (keepsOn s Var) refl refl refl (omega arith) (refl, more, t, kept, fits)
 
         pub var-on : Answers o w₀ n (s .line) (varGoesOn o st f l) (varOn s w)
         unfolding varGoesOn varOn
         var-on =
-            by-test (s .line) (λ (y : Turn). y) _ _ _ _ _ _ (wants Var) (λ t. quiet _ _ w (s .line) (keeps-var t) (keeps-line Var))
+            by-test (s .line) (λ (y : Turn). y) _ _ _ _ _ _ wants-same (λ t. quiet _ _ w (s .line) (keeps-var t) (keeps-line Var))
             (λ t. var-done d _ _ (collected Var Whole Whole refl) (Gathers.collected-long Var Whole l) f kept fits (omega arith))
 
         pub var-starts : Answers o w₀ n (s .line) (varStarts o st f l) (varStart s w)

@@ -1,10 +1,10 @@
 -- What a session stands for: the standing of the whole-file answer, and the bytes of the record on its way.
 -- Assumes nothing.
-use Prim.Native.Nat.{ℕ, _+_, _≤_, _<_, _^_, min}
+use Prim.Native.Nat.{ℕ, _+_, _≤_, _<_, _^_, min, max}
 use mathlib.Core.Path.{_≡_}
 use mathlib.Core.Bool.{Bool, true}
 use mathlib.Core.List.{List, [], _∷_, _++_}
-use lib.ListN.{length, drop}
+use lib.ListN.{length, take, drop, replicate}
 use Rattle.text.specs.Characters.{allBlank}
 use Rattle.des.specs.Des.{enciphered}
 use Rattle.digest.specs.Running.{begun, alike, tookBytes, tookRecords}
@@ -17,11 +17,11 @@ use Rattle.message.specs.declared.Kind.the-variants.{Esi, Suo, Var}
 use Rattle.checks.specs.Checks.{keyOr0}
 use Rattle.opening.specs.declared.Opening.{Opening}
 use Rattle.whole_file.specs.Records.{withoutCr, sizeLimit}
-use Rattle.whole_file.specs.Messages.{wantsMore, textOf}
+use Rattle.whole_file.specs.Messages.{mostLength, wantedLength, wantsMore}
 use Rattle.whole_file.specs.WholeFile.{Opened, Situation, beforeEsi, collectingEsi, outside, collectingSuo, inFrame, collectingVar, closed}
 use Rattle.whole_file.specs.WholeFile.{Standing, Step, Told}
 use Rattle.session.specs.Lines.{waited}
-use Rattle.session.specs.Events.{Turn}
+use Rattle.session.specs.Events.{keptRoom, Turn}
 use Rattle.session.specs.Told.{Answered, saidBy}
 use Rattle.session.specs.declared.Line.{Line}
 use Rattle.session.specs.declared.Place.{Place}
@@ -32,9 +32,14 @@ use Rattle.session.specs.declared.Session.{Session}
 
 -- ---- what is gathered
 
+-- the first characters, with zeros after the last
+unfoldable pub keptText : List ℕ → List ℕ
+keptText chars = take keptRoom (chars ++ replicate keptRoom 0)
+
 -- characters, however many, as a session keeps them
 unfoldable pub gatheredOf : List ℕ → Gathered
-gatheredOf chars = record { count = min 161 (length chars); blank = allBlank (drop 161 chars); text = textOf chars }
+gatheredOf chars =
+    record { count = min (length chars) mostLength; blank = allBlank (drop (max keptRoom (wantedLength chars)) chars); text = keptText chars }
 
 -- ---- an open frame
 
@@ -82,13 +87,13 @@ digested closed = 0
 abbrev pub Situated : Situation → List ℕ → Bool → Place → Gathered → Batch → Type 0
 Situated beforeEsi chars told p g batch = (p ≡ BeforeEsi) × (g ≡ gatheredOf chars)
 Situated (collectingEsi sofar) chars told p g batch =
-    (p ≡ Collecting Esi) × (g ≡ gatheredOf (sofar ++ chars)) × (wantsMore Esi sofar ≡ true)
+    (p ≡ Collecting Esi) × (g ≡ gatheredOf (sofar ++ chars)) × (wantsMore sofar ≡ true)
 Situated (outside before) chars told p g batch = (p ≡ Outside) × (g ≡ gatheredOf chars) × (told ≡ before)
 Situated (collectingSuo sofar) chars told p g batch =
-    (p ≡ Collecting Suo) × (g ≡ gatheredOf (sofar ++ chars)) × (wantsMore Suo sofar ≡ true)
+    (p ≡ Collecting Suo) × (g ≡ gatheredOf (sofar ++ chars)) × (wantsMore sofar ≡ true)
 Situated (inFrame f) chars told p g batch = (p ≡ InData) × (g ≡ gatheredOf chars) × (batch ≡ batchOf f chars) × FrameFits f
 Situated (collectingVar sofar f) chars told p g batch =
-    (p ≡ Collecting Var) × (g ≡ gatheredOf (sofar ++ chars)) × (wantsMore Var sofar ≡ true) × Kept f batch × FrameFits f
+    (p ≡ Collecting Var) × (g ≡ gatheredOf (sofar ++ chars)) × (wantsMore sofar ≡ true) × Kept f batch × FrameFits f
 Situated closed chars told p g batch = p ≡ Closed
 
 -- ---- the table's bytes w say the table t, and are the first bytes w₀ with it written over them

@@ -20,8 +20,8 @@ use Rattle.text.proofs.Laws.{decimal-lt, hex-lt}
 use Rattle.calendar.specs.Dates.{realDate, realTime, isReal}
 use Rattle.message.specs.Layout.{Field, fields, total, offsetIn, widthIn, fieldText, layout, bankEsi, pte}
 use Rattle.message.specs.Order.{Check, firstFailing}
-use Rattle.message.specs.Rules.{formOf, formatHolds, oneOf, methods, commonRules, ownRules, obeys, valueHolds, isShort, formatFails}
-use Rattle.message.specs.Rules.{valueFails, eachField, formChecks}
+use Rattle.message.specs.Rules.{formOf, formatHolds, oneOf, methods, lengthRules, commonRules, ownRules, obeys, valueHolds, isShort}
+use Rattle.message.specs.Rules.{formatFails, valueFails, eachField, formChecks}
 use Rattle.message.specs.Fields.{stampOf, dateOfStamp, transportGenerationOf, workingGenerationOf, onceFieldOf}
 use Rattle.message.specs.Fields.{requestOf}
 use Rattle.message.specs.declared.Kind.{Kind}
@@ -147,7 +147,10 @@ module _ (k : Kind) (about : About) (m : Collected) (sound : firstFailing (formC
 
 value-of : (k : Kind) (n : ℕ) (m : List ℕ) → valueHolds (formOf k) n m ≡ true → (obeys (commonRules k) n m ≡ true)
     × (obeys (ownRules k) n m ≡ true)
-value-of k n m e = let a = sym (obeys-append (commonRules k) (ownRules k) n m) ∙ e in (left _ _ a, right _ _ a)
+value-of k n m e =
+    let a = right _ _ (sym (obeys-append (lengthRules k) (commonRules k ++ ownRules k) n m) ∙ e) in
+    let b = sym (obeys-append (commonRules k) (ownRules k) n m) ∙ a in
+    (left _ _ b, right _ _ b)
 
 date-real : (k : Kind) (m : List ℕ) → obeys (commonRules k) 121 m ≡ true → realDate (decimal (fieldText 121 m)) ≡ true
 unfolding commonRules obeys both either fails

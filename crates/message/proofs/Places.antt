@@ -18,7 +18,9 @@ use Rattle.ground.proofs.Choices.{skips}
 use Rattle.ground.proofs.Table.{each}
 use Rattle.text.specs.Numbers.{decimal, hex}
 use Rattle.text.proofs.Laws.{decimal-lt}
-use Rattle.message.specs.Layout.{Field, laid, field, noField, fields, total, offsetIn, widthIn, fieldText}
+use Rattle.message.specs.Layout.{Field, laid, field, noField, fields, total, layout, layoutLength, offsetIn, widthIn, fieldText}
+use Rattle.message.specs.declared.Kind.{Kind}
+use Rattle.message.specs.declared.Kind.the-variants.{Esi, Suo, Var}
 
 -- the number of the field at a place
 abbrev pub numberAt : ℕ → ℕ
@@ -89,6 +91,13 @@ unfolding fieldText part total
 none-past n m h p =
     let e : drop (offsetIn n fields) m ≡ [] = drop-of-length-le m {i = offsetIn n fields} (omega (arith, p .0)) in
     ap (take (widthIn n fields)) e ∙ take-nil (widthIn n fields)
+
+-- no message of a customer's has a layout of more than 161
+pub layout-within : (kind : Kind) → layoutLength kind ≤ 161
+unfolding layoutLength layout total
+layout-within Esi = omega arith
+layout-within Suo = omega arith
+layout-within Var = omega arith
 
 -- field 2, which states the length
 pub length-field : (m : List ℕ) → fieldText (field 2) m ≡ part 5 3 m

@@ -38,6 +38,10 @@ hexFields Esi = field 17 ∷ []
 hexFields Suo = field 15 ∷ []
 hexFields Var = field 15 ∷ field 16 ∷ field 17 ∷ []
 
+-- a test that is made only where it is asked
+abbrev pub only : Bool → Bool → Bool
+only asked holds = either (fails asked) holds
+
 -- a rule on the characters of its own field
 abbrev pub rule : ℕ → (List ℕ → Bool) → Rule
 rule n f = record { number = n; holds = λ m. f (fieldText n m) }
@@ -53,11 +57,18 @@ methods Esi = letters "SMH" ∷ []
 methods Suo = letters "SKH" ∷ letters "SKE" ∷ []
 methods Var = letters "SMH" ∷ []
 
--- length is the layout's; version is 110 or 120; field 4 blank, 5 is 0000, 6 not all blank; method; date and time real
+-- version 110 or 120
+unfoldable pub isExact : List ℕ → Bool
+isExact m = oneOf (letters "110" ∷ letters "120" ∷ []) (fieldText (field 3) m)
+
+-- length is the layout's for version 110 or 120, which have exact lengths
+unfoldable pub lengthRules : Kind → List Rule
+lengthRules kind =
+    record { number = field 2; holds = λ m. only (isExact m) (eqb (decimal (fieldText (field 2) m)) (layoutLength kind)) } ∷ []
+
+-- field 4 blank, 5 is 0000, 6 not all blank; method; date and time real
 unfoldable pub commonRules : Kind → List Rule
 commonRules kind =
-    rule (field 2) (λ text. eqb (decimal text) (layoutLength kind)) ∷
-    rule (field 3) (λ text. oneOf (letters "110" ∷ letters "120" ∷ []) text) ∷
     rule (field 4) (λ text. allBlank text) ∷
     rule (field 5) (λ text. same (letters "0000") text) ∷
     rule (field 6) (λ text. fails (allBlank text)) ∷
@@ -79,13 +90,9 @@ ownRules Var =
     rule (field 18) (λ text. oneOf (letters "0" ∷ letters "1" ∷ letters "2" ∷ []) text) ∷ []
 
 abbrev pub formOf : Kind → Form
-formOf kind = record { fields = layout kind; hexes = hexFields kind; rules = commonRules kind ++ ownRules kind }
+formOf kind = record { fields = layout kind; hexes = hexFields kind; rules = lengthRules kind ++ (commonRules kind ++ ownRules kind) }
 
 -- ---- format (1010)
-
--- a test that is made only of some fields
-abbrev pub only : Bool → Bool → Bool
-only asked holds = either (fails asked) holds
 
 -- field n with these characters: fields 1 to 16 use only the field characters; fields 2, 3, 5, 10, 11 and 12 are digits; hex digits where
 -- used; characters over in a message's last record must be blank (field 2)

@@ -11,7 +11,7 @@ ghost use Rattle.message.specs.Contents.{contentsAs, atFault};
 ghost use Rattle.message.specs.Order.{firstFailing};
 ghost use Rattle.message.specs.declared.Extent.the-variants.{Whole};
 ghost use Rattle.message.specs.Rules.{hexFields, only, oneOf, methods, commonRules, ownRules, formOf, formatHolds, obeys, valueHolds};
-ghost use Rattle.message.specs.Rules.{formChecks};
+ghost use Rattle.message.specs.Rules.{isExact, lengthRules, formChecks};
 ghost use Rattle.message.specs.Passing.{passesIn, lowestBroken};
 ghost use Rattle.message.specs.Fields.{receiverOf, senderOf, stampOf, dateOfStamp, versionOf, methodOf, transportGenerationOf};
 ghost use Rattle.message.specs.Fields.{workingGenerationOf, onceFieldOf, digestFieldOf, checksumFieldOf, requestOf};
@@ -243,14 +243,30 @@ fn request_holds(text: &[u8]) -> bool
     one_of(b"1", b"2", text)
 }
 
+// Whether the version is one of those that have exact lengths.
+fn is_exact(m: &[u8]) -> bool
+    ensures { λ r. ⌜ r ≡ isExact (now (m .entry)) ⌝ }
+{
+    one_of(b"110", b"120", span(2, 3, m))
+}
+
+// The rule on the length, of a message whose version has exact lengths or not.
+fn length_holds(k: Kind, exact: bool, number: u32, text: &[u8]) -> bool
+    requires { ⌜ length (now text) ≤ widthIn number fields ⌝ }
+    ensures { λ r. ⌜ ((m : List ℕ) → fieldText number m ≡ now (text .entry) → isExact m ≡ «exact» → r ≡ obeys (lengthRules k) number m) ⌝ }
+{
+    if number != 20 {
+        return true;
+    }
+    only_if(exact, text::number(text) == length_of(k) as u64)
+}
+
 // The rules that every kind has.
 fn common_holds(k: Kind, number: u32, text: &[u8]) -> bool
     requires { ⌜ length (now text) ≤ widthIn number fields ⌝ }
     ensures { λ r. ⌜ ((m : List ℕ) → fieldText number m ≡ now (text .entry) → r ≡ obeys (commonRules k) number m) ⌝ }
 {
     match number {
-        20 => text::number(text) == length_of(k) as u64,
-        30 => one_of(b"110", b"120", text),
         40 | 140 => text::all_blank(text),
         50 => text::same_bytes(b"0000", text),
         60 => !text::all_blank(text),
@@ -288,10 +304,13 @@ fn own_holds(k: Kind, number: u32, text: &[u8]) -> bool
     }
 }
 
-fn value_holds(k: Kind, number: u32, text: &[u8]) -> bool
+fn value_holds(k: Kind, exact: bool, number: u32, text: &[u8]) -> bool
     requires { ⌜ length (now text) ≤ widthIn number fields ⌝ }
-    ensures { λ r. ⌜ ((m : List ℕ) → fieldText number m ≡ now (text .entry) → r ≡ valueHolds (formOf k) number m) ⌝ }
+    ensures { λ r. ⌜ ((m : List ℕ) → fieldText number m ≡ now (text .entry) → isExact m ≡ «exact» → r ≡ valueHolds (formOf k) number m) ⌝ }
 {
+    if !length_holds(k, exact, number, text) {
+        return false;
+    }
     if !common_holds(k, number, text) {
         return false;
     }
@@ -299,12 +318,13 @@ fn value_holds(k: Kind, number: u32, text: &[u8]) -> bool
 }
 
 // The test of the values or of the format.
-fn passes(values: bool, k: Kind, blank_over: bool, number: u32, text: &[u8]) -> bool
+fn passes(values: bool, k: Kind, exact: bool, blank_over: bool, number: u32, text: &[u8]) -> bool
     requires { ⌜ length (now text) ≤ widthIn number fields ⌝ }
-    ensures { λ r. ⌜ ((m : List ℕ) → fieldText number m ≡ now (text .entry) → r ≡ passesIn values (formOf k) «blank_over» m number) ⌝ }
+    ensures { λ r. ⌜ ((m : List ℕ) → fieldText number m ≡ now (text .entry) → isExact m ≡ «exact»
+        → r ≡ passesIn values (formOf k) «blank_over» m number) ⌝ }
 {
     if values {
-        return value_holds(k, number, text);
+        return value_holds(k, exact, number, text);
     }
     format_holds(k, blank_over, number, text)
 }
@@ -314,10 +334,11 @@ fn first_broken(values: bool, code: u32, about: About, k: Kind, blank_over: bool
     ensures { λ r. ⌜ r ≡ lowestBroken code about (passesIn values (formOf k) «blank_over» (now (m .entry))) (layout k) ⌝ }
 {
     let count = count_of(k);
+    let exact = is_exact(m);
     let mut i = 0;
     while i < count {
         let number = number_of(i);
-        if !passes(values, k, blank_over, number, span(i, i + 1, m)) {
+        if !passes(values, k, exact, blank_over, number, span(i, i + 1, m)) {
             return Fault::Found {
                 code,
                 field: number,

@@ -1,29 +1,78 @@
 // Characters of the record on its way.
 ghost use mathlib.Core.Path.{_≡_};
+ghost use Prim.Native.Nat.{_+_, _≤_, min};
+ghost use lib.Dec.{eqb, ltb};
+ghost use lib.ListN.{length};
+ghost use Rattle.ground.specs.Choice.{both, either};
 ghost use Rattle.des.specs.Des.{cipherBy};
+ghost use Rattle.whole_file.specs.Messages.{mostLength};
 ghost use Rattle.session.specs.Lines.{lineAfter};
 ghost use Rattle.session.specs.Events.{gatheredAll, batchWith, heardBy};
 
-// The record or message on its way with more characters: 161 are kept, of those past them only whether all were blank.
-pub fn gather(g: session::Gathered, bytes: &[u8]) -> session::Gathered
+// One more past the room: counted up to the longest message's.
+fn counted(count: usize) -> usize
+    ensures { λ r. ⌜ r ≡ min (count + 1) mostLength ⌝ }
+{
+    if count < 500 { count + 1 } else { 500 }
+}
+
+// Whether all that must be blank is, with one more at the place `count`.
+fn still_blank(blank: bool, count: usize, wanted: usize, b: u8) -> bool
+    ensures { λ r. ⌜ r ≡ both «blank» (either (ltb count wanted) (eqb b 0x20)) ⌝ }
+{
+    if count < wanted {
+        return blank;
+    }
+    if b == 0x20 { blank } else { false }
+}
+
+// More characters past the room: only whether those past the stated length are blank is kept of them.
+fn pass_over(g: session::Gathered, bytes: &[u8]) -> session::Gathered
+    requires { ⌜ 161 ≤ g .count ⌝ }
     ensures { λ r. ⌜ r ≡ gatheredAll g (now (bytes .entry)) ⌝ }
 {
+    let text = g.text;
+    let wanted = session::wanted_length(text, 161);
     let mut count = g.count;
     let mut blank = g.blank;
-    let mut text = g.text;
     let mut i = 0;
     while i < bytes.len() {
-        if count < 161 {
-            text[count] = bytes[i];
-            count += 1;
-        } else {
-            if bytes[i] != 0x20 {
-                blank = false;
-            }
-        }
+        blank = still_blank(blank, count, wanted, bytes[i]);
+        count = counted(count);
         i += 1;
     }
     session::Gathered { count, blank, text }
+}
+
+// More characters as far as there is room for them.
+fn keep(g: session::Gathered, bytes: &[u8]) -> session::Gathered
+    requires { ⌜ g .count + length (now bytes) ≤ 161 ⌝ }
+    ensures { λ r. ⌜ r ≡ gatheredAll g (now (bytes .entry)) ⌝ }
+{
+    let blank = g.blank;
+    let mut count = g.count;
+    let mut text = g.text;
+    let mut i = 0;
+    while i < bytes.len() {
+        text[count] = bytes[i];
+        count += 1;
+        i += 1;
+    }
+    session::Gathered { count, blank, text }
+}
+
+// The record or message on its way with more characters.
+pub fn gather(g: session::Gathered, bytes: &[u8]) -> session::Gathered
+    ensures { λ r. ⌜ r ≡ gatheredAll g (now (bytes .entry)) ⌝ }
+{
+    if 161 <= g.count {
+        return pass_over(g, bytes);
+    }
+    let room = 161 - g.count;
+    if bytes.len() <= room {
+        return keep(g, bytes);
+    }
+    pass_over(keep(g, &bytes[..room]), &bytes[room..])
 }
 
 // In data the characters go into the digest too.

@@ -1,19 +1,19 @@
--- What is kept of a text: whether what is over is blank, and what the first record tells; its field 2 ends before any cut.
+-- What is kept of a text: whether what is over is blank, its known fields, what the first record tells; field 2 ends before any cut.
 -- Assumes nothing.
-use mathlib.Core.Path.{_≡_, sym, ap, _∙_}
+use mathlib.Core.Path.{_≡_, refl, sym, ap, ap₂, _∙_}
 use mathlib.Core.Bool.{Bool, true, false}
-use mathlib.Core.List.{List}
-use Prim.Native.Nat.{ℕ, _≤_, _<_, min}
+use mathlib.Core.List.{List, [], _∷_, _++_}
+use Prim.Native.Nat.{ℕ, zero, suc, _≤_, _<_, min}
 use native.Mathlib.Nat.{min-le-left, le-trans}
 use native.Mathlib.Omega.{arith}
-use borrow.Author.Tests.{lt-ltb, le-ltb, eq-eqb, ne-eqb}
-use lib.Dec.{eqb, ltb}
-use lib.ListN.{length, take, drop, length-take, drop-of-length-le}
+use borrow.Author.Tests.{lt-ltb, le-ltb}
+use lib.Dec.{ltb}
+use lib.ListN.{length, take, drop, replicate, length-take, drop-of-length-le}
 use lib.Seq.{take-all}
-use Rattle.ground.specs.Choice.{both, fails, pick}
-use Rattle.ground.specs.Lists.{all, part}
+use Rattle.ground.specs.Choice.{both, fails, pick, between}
+use Rattle.ground.specs.Lists.{all, part, overlay}
 use Rattle.ground.proofs.Choices.{picks, skips, decides, fails-left}
-use Rattle.ground.proofs.Parts.{part-take}
+use Rattle.ground.proofs.Parts.{take-least, over-zeros, part-take}
 use Rattle.text.specs.Characters.{digit, allBlank}
 use Rattle.text.specs.Numbers.{decimal}
 use Rattle.message.specs.Layout.{layoutLength}
@@ -21,7 +21,7 @@ use Rattle.message.specs.declared.Kind.{Kind}
 use Rattle.message.specs.declared.Extent.{Extent}
 use Rattle.message.specs.declared.Extent.the-variants.{Whole, TooShort, LengthNotDigits, OtherLength}
 use Rattle.message.proofs.Places.{length-field}
-use Rattle.whole_file.specs.Messages.{statedLength, extentOf}
+use Rattle.whole_file.specs.Messages.{statedLength, extentOf, wantedLength, knownText}
 use Rattle.session.specs.Events.{held, collectedBy}
 use Rattle.session.specs.declared.Gathered.{Gathered}
 
@@ -31,25 +31,37 @@ pub none-over : (from n : ℕ) (l : List ℕ) → length (take n l) ≤ from →
 unfolding all
 none-over from n l h = rw (drop-of-length-le (take n l) h)
 
-module _ (kind : Kind) (extent : Extent) (g : Gathered) (len : ℕ) (b : Bool) (e : len ≡ layoutLength kind)
-    (d : b ≡ allBlank (drop len (take (g .count) (g .text)))) where
-  over : (drop (layoutLength kind) (held g)) ≡ drop len (take (g .count) (g .text))
+module _ (kind : Kind) (extent : Extent) (g : Gathered) (text : List ℕ) (t : text ≡ knownText kind (take (g .count) (g .text)))
+    (wanted : ℕ) (e : wanted ≡ wantedLength (take (g .count) (g .text))) (b : Bool)
+    (d : b ≡ allBlank (drop wanted (take (g .count) (g .text)))) where
+  surplus : allBlank (drop (wantedLength (held g)) (held g)) ≡ b
   unfolding held
-  over = ap (λ (n : ℕ). drop n (take (g .count) (g .text))) (sym e)
+  surplus = ap (λ (n : ℕ). allBlank (drop n (take (g .count) (g .text)))) (sym e) ∙ sym d
 
-  surplus : allBlank (drop (layoutLength kind) (held g)) ≡ b
-  surplus = ap (λ (l : List ℕ). allBlank l) over ∙ sym d
+  known : text ≡ knownText kind (held g)
+  unfolding held
+  known = t
 
-  made : (x : Bool) → both (allBlank (drop (layoutLength kind) (held g))) (g .blank) ≡ x
-      → record { extent = extent; blank = x; text = g .text } ≡ collectedBy kind extent g
+  made : (x : Bool) → both (allBlank (drop (wantedLength (held g)) (held g))) (g .blank) ≡ x
+      → record { extent = extent; blank = x; text = text } ≡ collectedBy kind extent g
   unfolding collectedBy
-  made x q = ap (λ (y : Bool). record { extent = extent; blank = y; text = g .text }) (sym q)
+  made x q =
+      ap₂ (λ (y : Bool) (l : List ℕ). record { extent = extent; blank = y; text = l }) (sym q) known
 
-  pub blank-over : b ≡ true → record { extent = extent; blank = g .blank; text = g .text } ≡ collectedBy kind extent g
-  blank-over t = made _ (decides _ _ (surplus ∙ t))
+  pub blank-over : b ≡ true → record { extent = extent; blank = g .blank; text = text } ≡ collectedBy kind extent g
+  blank-over h = made _ (decides _ _ (surplus ∙ h))
 
-  pub other-over : b ≡ false → record { extent = extent; blank = false; text = g .text } ≡ collectedBy kind extent g
-  other-over t = made _ (fails-left _ _ (surplus ∙ t))
+  pub other-over : b ≡ false → record { extent = extent; blank = false; text = text } ≡ collectedBy kind extent g
+  other-over h = made _ (fails-left _ _ (surplus ∙ h))
+
+-- ---- the known fields
+
+pub known-is : (kind : Kind) (count : ℕ) (l : List ℕ) (n : ℕ) → n ≡ min (layoutLength kind) count
+    → overlay (take n l) (replicate 161 0) ≡ knownText kind (take count l)
+unfolding overlay knownText
+known-is kind count l n e =
+    ap (λ (v : List ℕ). overlay v (replicate 161 0)) (ap (λ (k : ℕ). take k l) e ∙ sym (take-least (layoutLength kind) count l))
+    ∙ over-zeros (take (layoutLength kind) (take count l)) 161 161 (omega arith)
 
 -- ---- what the first record tells
 
@@ -85,14 +97,14 @@ module _ (kind : Kind) (n : ℕ) (l : List ℕ) where
           let s : length (take 3 (drop 5 l)) ≤ 19 = simp length-take (le-trans (min-le-left 3 (length (drop 5 l))) (omega arith)) in
           e ∙ ap decimal (take-all 19 (take 3 (drop 5 l)) s) ∙ ap decimal (sym whole-part)
 
-      pub other-length : (r ≡ len → ⊥) → OtherLength ≡ extentOf kind (take n l)
-      unfolding extentOf fails
-      other-length w =
-          let q : eqb (decimal (statedLength (take n l))) (layoutLength kind) ≡ false = ne-eqb _ _ (λ z. w (read ∙ z ∙ sym g)) in
-          sym (past-eleven _ _ ∙ digits-in-it _ _ ∙ picks _ _ _ (ap fails q))
+      module _ (w : Bool) (i : w ≡ between len 500 r) where
+        ranged : w ≡ between (layoutLength kind) 500 (decimal (statedLength (take n l)))
+        ranged = i ∙ ap₂ (λ (x y : ℕ). between x 500 y) g read
 
-      pub its-length : r ≡ len → Whole ≡ extentOf kind (take n l)
-      unfolding extentOf fails
-      its-length w =
-          let q : eqb (decimal (statedLength (take n l))) (layoutLength kind) ≡ true = eq-eqb _ _ (sym read ∙ w ∙ g) in
-          sym (past-eleven _ _ ∙ digits-in-it _ _ ∙ skips _ _ _ (ap fails q))
+        pub other-length : w ≡ false → OtherLength ≡ extentOf kind (take n l)
+        unfolding extentOf fails
+        other-length q = sym (past-eleven _ _ ∙ digits-in-it _ _ ∙ picks _ _ _ (ap fails (sym ranged ∙ q)))
+
+        pub its-length : w ≡ true → Whole ≡ extentOf kind (take n l)
+        unfolding extentOf fails
+        its-length q = sym (past-eleven _ _ ∙ digits-in-it _ _ ∙ skips _ _ _ (ap fails (sym ranged ∙ q)))

@@ -5,6 +5,7 @@ ghost use mathlib.Core.Bool.{false};
 ghost use mathlib.Core.List.{List, []};
 ghost use Prim.Native.Nat.{ℕ, _≤_, min};
 ghost use lib.ListN.{length, take, drop};
+ghost use Rattle.ground.specs.Choice.{between};
 ghost use Rattle.ground.specs.Lists.{same};
 ghost use Rattle.text.specs.Characters.{allBlank};
 ghost use Rattle.table.specs.Decode.{tableOf};
@@ -14,9 +15,10 @@ ghost use Rattle.message.specs.Order.{firstFailing};
 ghost use Rattle.message.specs.Rules.{formOf, formChecks};
 ghost use Rattle.message.specs.declared.About.the-variants.{Answered};
 ghost use Rattle.verdict.specs.Outcomes.{isSound};
-ghost use Rattle.whole_file.specs.Messages.{begins, extentOf, isWhole, wantsMore, oneTime, transportHeld, oneTimeOf, onceOf};
-ghost use Rattle.session.specs.Events.{held, collectedBy, isEsi, silent, bareTurn, placeAfterEsi, esiDone, suoDone, frameBy, varDone};
-ghost use Rattle.session.specs.Events.{dataTaken};
+ghost use Rattle.whole_file.specs.Messages.{begins, mostLength, extentOf, isWhole, knownText};
+ghost use Rattle.whole_file.specs.Messages.{oneTime, transportHeld, oneTimeOf, onceOf};
+ghost use Rattle.session.specs.Events.{held, wants, collectedBy, isEsi, silent, bareTurn, placeAfterEsi, esiDone, suoDone, frameBy};
+ghost use Rattle.session.specs.Events.{varDone, dataTaken};
 
 // ---- a message as its records come
 
@@ -61,6 +63,16 @@ pub fn begins_var(g: session::Gathered) -> bool
     begins_with(text, g.count, b">>VAR")
 }
 
+// Whether a length is from the layout's to the longest message's.
+fn is_between(layout: usize, length: u64) -> bool
+    ensures { λ r. ⌜ r ≡ between layout mostLength length ⌝ }
+{
+    if length < layout as u64 {
+        return false;
+    }
+    length <= 500
+}
+
 // What the first record tells of a message.
 fn extent_in(k: message::Kind, text: [u8; 161], count: usize) -> message::Extent
     ensures { λ r. ⌜ r ≡ extentOf k (take count text) ⌝ }
@@ -72,7 +84,7 @@ fn extent_in(k: message::Kind, text: [u8; 161], count: usize) -> message::Extent
     if !text::all_digits(&text[5..8]) {
         return message::Extent::LengthNotDigits;
     }
-    if text::number(&text[5..8]) != message::length_of(k) as u64 {
+    if !is_between(message::length_of(k), text::number(&text[5..8])) {
         return message::Extent::OtherLength;
     }
     message::Extent::Whole
@@ -97,15 +109,16 @@ pub fn is_whole(extent: message::Extent) -> bool
     }
 }
 
-pub fn wants_more(k: message::Kind, g: session::Gathered) -> bool
-    ensures { λ r. ⌜ r ≡ wantsMore k (held g) ⌝ }
+// Whether the length that it states is not yet reached.
+pub fn wants_more(g: session::Gathered) -> bool
+    ensures { λ r. ⌜ r ≡ wants g ⌝ }
 {
     let text = g.text;
-    kept_count(text, g.count) < message::length_of(k)
+    g.count < session::wanted_length(text, g.count)
 }
 
 // Whether those kept past the first `from` are blank.
-fn rest_blank(text: [u8; 161], count: usize, from: usize) -> bool
+fn over_blank(text: [u8; 161], count: usize, from: usize) -> bool
     ensures { λ r. ⌜ r ≡ allBlank (drop from (take count text)) ⌝ }
 {
     let n = kept_count(text, count);
@@ -115,7 +128,17 @@ fn rest_blank(text: [u8; 161], count: usize, from: usize) -> bool
     text::all_blank(&text[from..n])
 }
 
-// The message with its characters; those over in its last record are blank or not.
+// The known fields: the rest of the room is zeros.
+fn known_text(k: message::Kind, text: [u8; 161], count: usize) -> [u8; 161]
+    ensures { λ r. ⌜ r ≡ knownText k (take count text) ⌝ }
+{
+    let mut out = [0u8; 161];
+    let n = least(message::length_of(k), count);
+    text::copy(&mut out, &text[..n]);
+    out
+}
+
+// The message with its known fields.
 pub fn collected_by(
     k: message::Kind,
     extent: message::Extent,
@@ -123,9 +146,10 @@ pub fn collected_by(
 ) -> message::Collected
     ensures { λ r. ⌜ r ≡ collectedBy k extent g ⌝ }
 {
-    let text = g.text;
-    let rest = rest_blank(text, g.count, message::length_of(k));
-    if rest {
+    let gathered = g.text;
+    let text = known_text(k, gathered, g.count);
+    let wanted = session::wanted_length(gathered, g.count);
+    if over_blank(gathered, g.count, wanted) {
         return message::Collected {
             extent,
             blank: g.blank,

@@ -9,7 +9,7 @@ fn esi_on(s: session::Session, t: &mut [u8]) -> session::Stepped
     ensures { λ _. ⌜ now (t .exit) ≡ esiOn s (now (t .entry)) .table ⌝ }
 {
     let gathered = s.gathered;
-    if read_messages::wants_more(message::Kind::Esi, gathered) {
+    if read_messages::wants_more(gathered) {
         return read_messages::quiet(session::keeps_on(s, message::Kind::Esi));
     }
     read_messages::esi_done(s, t, message::Extent::Whole)
@@ -20,7 +20,7 @@ fn suo_on(s: session::Session, t: &[u8]) -> session::Session
     ensures { λ r. ⌜ r ≡ suoOn s (now (t .entry)) ⌝ }
 {
     let gathered = s.gathered;
-    if read_messages::wants_more(message::Kind::Suo, gathered) {
+    if read_messages::wants_more(gathered) {
         return session::keeps_on(s, message::Kind::Suo);
     }
     read_messages::suo_done(s, t, message::Extent::Whole)
@@ -32,7 +32,7 @@ fn var_on(s: session::Session, t: &mut [u8]) -> session::Stepped
     ensures { λ _. ⌜ now (t .exit) ≡ varOn s (now (t .entry)) .table ⌝ }
 {
     let gathered = s.gathered;
-    if read_messages::wants_more(message::Kind::Var, gathered) {
+    if read_messages::wants_more(gathered) {
         return read_messages::quiet(session::keeps_on(s, message::Kind::Var));
     }
     read_messages::var_done(s, t, message::Extent::Whole)

@@ -1,11 +1,11 @@
 -- Events to replies: what characters, a record's end, a byte past the size limit and the file's end do to a session and a table.
 -- Assumes nothing.
-use Prim.Native.Nat.{ℕ, _+_}
+use Prim.Native.Nat.{ℕ, _+_, min}
 use mathlib.Core.Bool.{Bool, true, false}
 use mathlib.Core.List.{List, [], _∷_}
 use lib.Dec.{eqb, ltb}
 use lib.ListN.{take, drop, set, replicate}
-use Rattle.ground.specs.Choice.{both, pick}
+use Rattle.ground.specs.Choice.{both, either, pick}
 use Rattle.text.specs.Characters.{blank, allBlank}
 use Rattle.des.specs.Des.{enciphered}
 use Rattle.digest.specs.Running.{begun, alike, tookBytes, ended, answered}
@@ -27,7 +27,7 @@ use Rattle.verdict.specs.declared.Outcome.{Outcome}
 use Rattle.notice.specs.Codes.{codeIn, codes}
 use Rattle.reply.specs.declared.Answering.{Answering}
 use Rattle.answers.specs.Answers.{bareAnswer, verdictAnswer}
-use Rattle.whole_file.specs.Messages.{begins, extentOf, isWhole, wantedLength, wantsMore, onceOf}
+use Rattle.whole_file.specs.Messages.{begins, extentOf, isWhole, mostLength, wantedLength, knownText, onceOf}
 use Rattle.whole_file.specs.WholeFile.{occasion}
 use Rattle.session.specs.declared.Line.{Line}
 use Rattle.session.specs.declared.Place.{Place}
@@ -61,11 +61,16 @@ onward s ended told made sender line place gathered batch =
 abbrev pub keptRoom : ℕ
 keptRoom = 161
 
--- the record or message on its way with one character more: as many are kept, of those past them only whether all were blank
+-- the record or message on its way with one character more: as many are kept, and counted up to the longest message's; of those past the
+-- stated length only whether all were blank
 unfoldable pub gatheredWith : Gathered → ℕ → Gathered
 gatheredWith g c =
     pick (ltb (g .count) keptRoom) (record { count = g .count + 1; blank = g .blank; text = set (g .text) (g .count) c })
-    (record { count = g .count; blank = both (g .blank) (eqb c blank); text = g .text })
+    (record {
+      count = min (g .count + 1) mostLength;
+      blank = both (g .blank) (either (ltb (g .count) (wantedLength (g .text))) (eqb c blank));
+      text = g .text;
+    })
 
 unfoldable pub gatheredAll : Gathered → List ℕ → Gathered
 gatheredAll g [] = g
@@ -158,9 +163,17 @@ bareTurn s b pte code field chars after = replies (bareAnswer (tableOf b) (s .op
 unfoldable pub held : Gathered → List ℕ
 held g = take (g .count) (g .text)
 
+-- its stated length is not yet reached
+unfoldable pub wants : Gathered → Bool
+wants g = ltb (g .count) (wantedLength (held g))
+
 unfoldable pub collectedBy : Kind → Extent → Gathered → Collected
 collectedBy kind extent g =
-    record { extent = extent; blank = both (allBlank (drop (wantedLength kind) (held g))) (g .blank); text = g .text }
+    record {
+      extent = extent;
+      blank = both (allBlank (drop (wantedLength (held g)) (held g))) (g .blank);
+      text = knownText kind (held g);
+    }
 
 unfoldable pub placeAfterEsi : Bool → Place
 placeAfterEsi true = Outside
@@ -206,15 +219,15 @@ keepsOn s kind = placed s (Collecting kind) (s .told) (s .gathered)
 
 unfoldable pub esiOn : Session → List ℕ → Turn
 esiOn s b =
-    pick (wantsMore Esi (held (s .gathered))) (silent (keepsOn s Esi) b) (esiDone s b (collectedBy Esi Whole (s .gathered)))
+    pick (wants (s .gathered)) (silent (keepsOn s Esi) b) (esiDone s b (collectedBy Esi Whole (s .gathered)))
 
 unfoldable pub suoOn : Session → List ℕ → Session
 suoOn s b =
-    pick (wantsMore Suo (held (s .gathered))) (keepsOn s Suo) (suoDone s b (collectedBy Suo Whole (s .gathered)))
+    pick (wants (s .gathered)) (keepsOn s Suo) (suoDone s b (collectedBy Suo Whole (s .gathered)))
 
 unfoldable pub varOn : Session → List ℕ → Turn
 varOn s b =
-    pick (wantsMore Var (held (s .gathered))) (silent (keepsOn s Var) b) (varDone s b (collectedBy Var Whole (s .gathered)))
+    pick (wants (s .gathered)) (silent (keepsOn s Var) b) (varDone s b (collectedBy Var Whole (s .gathered)))
 
 -- ---- a message's first record
 

@@ -12,7 +12,7 @@ use Rattle.calendar.specs.Dates.{realTime}
 use Rattle.message.specs.declared.Extent.{Extent}
 use Rattle.message.specs.declared.Extent.the-variants.{Whole, TooShort, LengthNotDigits, OtherLength, CutShort}
 use Rattle.checks.specs.Checks.{keyOr0}
-use Rattle.session.specs.Events.{keptRoom}
+use Rattle.whole_file.specs.Messages.{mostLength}
 use Rattle.session.specs.declared.Place.{Place}
 use Rattle.session.specs.declared.Place.the-variants.{BeforeEsi, Outside, Collecting, InData, Closed}
 use Rattle.session.specs.declared.Session.{Session}
@@ -25,12 +25,13 @@ isCut LengthNotDigits = false
 isCut OtherLength = false
 isCut CutShort = true
 
--- the time is real, the data type is 1 to 16, at most as many characters are kept as there is room for, the SUO was not cut short; the day
+-- the time is real, the data type is 1 to 16, at most as many characters are counted as the longest message has, the SUO was not cut
+-- short; the day
 -- is the table's, and every other number may be any that its type holds
 unfoldable pub inRange : Session → Bool
 inRange s =
     both (realTime (s .opening .time))
-    (both (between 1 16 (s .opening .kind)) (both (leb (s .gathered .count) keptRoom) (fails (isCut (s .batch .suo .extent)))))
+    (both (between 1 16 (s .opening .kind)) (both (leb (s .gathered .count) mostLength) (fails (isCut (s .batch .suo .extent)))))
 
 unfoldable pub isClosed : Place → Bool
 isClosed BeforeEsi = false

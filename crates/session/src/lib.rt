@@ -1,5 +1,8 @@
 // The session of a file on its way, and what each event does to it and to the table.
 ghost use mathlib.Core.Path.{_≡_};
+ghost use Prim.Native.Nat.{min};
+ghost use lib.ListN.{take};
+ghost use Rattle.whole_file.specs.Messages.{wantedLength};
 ghost use Rattle.whole_file.specs.WholeFile.{occasion};
 ghost use Rattle.session.specs.Events.{isData, isDue, noReply, nothing, placed, withBatch, judged, shut, keepsOn};
 ghost use Rattle.session.specs.Machine.{opened, unopened, withLine};
@@ -20,7 +23,8 @@ pub enum Place {
     Closed,
 }
 
-// The record or message on its way: how many of its characters are kept, whether those past the room were all blank, and the characters.
+// The record or message on its way: how many characters it has, up to the longest message's; whether those past its stated length that are
+// not kept were all blank; and the first 161.
 pub struct Gathered {
     pub count: usize,
     pub blank: bool,
@@ -132,7 +136,7 @@ pub fn is_in_range(s: Session) -> bool
     if 16 < opening.kind {
         return false;
     }
-    if 161 < gathered.count {
+    if 500 < gathered.count {
         return false;
     }
     let extent = suo.extent;
@@ -204,6 +208,22 @@ pub fn no_characters() -> Gathered
         blank: true,
         text: [0; 161],
     }
+}
+
+fn least(a: usize, b: usize) -> usize
+    ensures { λ r. ⌜ r ≡ min a b ⌝ }
+{
+    if a <= b { a } else { b }
+}
+
+// The length that a message has to reach, by its first `count` characters.
+pub fn wanted_length(text: [u8; 161], count: usize) -> usize
+    ensures { λ r. ⌜ r ≡ wantedLength (take count text) ⌝ }
+{
+    let from = least(5, count);
+    let to = least(8, count);
+    let stated = text::number(&text[from..to]);
+    if stated < 500 { stated as usize } else { 500 }
 }
 
 pub fn occasion_of(o: opening::Opening, made: u64) -> checks::Occasion

@@ -86,7 +86,7 @@ unfolding sessionOf sessionBytes width
 said-encodes b e =
     let n = long b e in
     let v = dec sessionShape 0 b in
-    let f : part 0 475 b ≡ enc sessionShape v = part-all b 475 (omega arith) ∙ sym (exact b e) ∙ ap sessionBytes (said b e)
+    let f : part 0 472 b ≡ enc sessionShape v = part-all b 472 (omega arith) ∙ sym (exact b e) ∙ ap sessionBytes (said b e)
     ∙ ap (enc sessionShape) (fields-back v) in
     fits-session v (written-fits sessionShape session-plain 0 b (omega arith) f)
 

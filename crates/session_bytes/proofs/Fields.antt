@@ -18,8 +18,8 @@ use Rattle.session.specs.Ranges.{StateFits, Encodes}
 use Rattle.session.specs.declared.Place.the-variants.{Closed}
 use Rattle.session.specs.declared.Session.{Session}
 use Rattle.session_bytes.specs.Names.{placeNumbered, extentNumber, extentNumbered}
-use Rattle.session_bytes.specs.Session.{headShape, lineShape, extentBytes, onceShape, stateShape, runningShape, sessionShape}
-use Rattle.session_bytes.specs.Session.{keyFrom, sessionFrom, extentTo, keyTo, stateTo, sessionTo, stateFrom}
+use Rattle.session_bytes.specs.Session.{headShape, lineShape, onceShape, stateShape, runningShape, sessionShape}
+use Rattle.session_bytes.specs.Session.{keyFrom, sessionFrom, keyTo, stateTo, sessionTo, stateFrom}
 
 -- ---- the parts that are written as rows
 
@@ -54,15 +54,6 @@ extent-rest (suc zero) h = absurd (omega arith)
 extent-rest (suc (suc zero)) h = absurd (omega arith)
 extent-rest (suc (suc (suc zero))) h = absurd (omega arith)
 extent-rest (suc (suc (suc (suc x)))) h = refl
-
--- an extent as a number of four bytes
-pub extent-bytes : (x : Extent) → bytesOf 4 (extentNumber x) ≡ enc extentBytes (extentTo x)
-unfolding enc bytesOf
-extent-bytes Whole = refl
-extent-bytes TooShort = refl
-extent-bytes LengthNotDigits = refl
-extent-bytes OtherLength = refl
-extent-bytes CutShort = refl
 
 -- ---- a session is its fields
 
@@ -139,7 +130,7 @@ session-fits s h =
       ((tt, (tt, (tt, (tt, (day, (time, (kind, (clock, made)))))))), (h .fits .sender-long, (word _ (h .size-fits), tt))),
       (
         (word _ (h .count-fits), (tt, h .fits .message-long)),
-        (((tt, (tt, (tt, tt))), (tt, h .fits .suo-long)), (once, (start, (solid, last)))),
+        ((tt, (tt, h .fits .suo-long)), (once, (start, (solid, last)))),
       ),
     )
 

@@ -28,7 +28,7 @@ size s h = wide sessionShape (sessionTo s) (fits-sized sessionShape (sessionTo s
 pub back : (s : Session) → Encodes s → sessionOf (sessionBytes s) ≡ s
 unfolding sessionOf sessionBytes width
 back s h =
-    let e = part-all (sessionBytes s) 475 (omega (arith, size s h)) in
+    let e = part-all (sessionBytes s) 472 (omega (arith, size s h)) in
     ap sessionFrom (codec.back sessionShape (sessionTo s) (session-fits s h) 0 (sessionBytes s) e) ∙ session-there s
 
 pub is-session : (s : Session) → Encodes s → isSession (sessionBytes s) ≡ true

@@ -1,23 +1,23 @@
 -- Bytes of a session's length are a session's where they pass the layout's tests, one after the other.
 -- Assumes nothing.
-use mathlib.Core.Path.{_≡_, refl, sym, ap, _∙_}
+use mathlib.Core.Path.{_≡_, refl, sym, _∙_}
 use mathlib.Core.Bool.{Bool, true, false}
 use mathlib.Core.List.{List, [], _∷_, _++_}
-use Prim.Native.Nat.{ℕ, zero, suc, _+_, _*_}
+use Prim.Native.Nat.{ℕ, zero, suc}
 use native.Mathlib.Omega.{arith}
-use borrow.Author.Tests.{eq-eqb, ne-eqb, ltb-true, lt-ltb}
+use borrow.Author.Tests.{eq-eqb, ne-eqb}
 use lib.Dec.{eqb, ltb}
 use lib.ListN.{length, getD}
 use Rattle.ground.specs.Choice.{both}
 use Rattle.ground.specs.Lists.{part, same, Each}
-use Rattle.ground.proofs.Choices.{left, right, join, fails-left, fails-right, decides}
-use Rattle.ground.proofs.Bools.{decided, both-true}
-use Rattle.ground.proofs.Parts.{part-all, part1, part4}
+use Rattle.ground.proofs.Choices.{fails-left, fails-right, decides}
+use Rattle.ground.proofs.Bools.{both-true}
+use Rattle.ground.proofs.Parts.{part-all}
 use Rattle.splices.specs.Bytes.{num}
 use Rattle.splices.proofs.Splice.{AllBytes}
 use Rattle.codec.specs.Layout.{perhaps, width, enc, dec, ok}
 use Rattle.codec.proofs.Laws.{exact}
-use Rattle.session_bytes.specs.Session.{sessionSize, extentShape, onceShape, sessionShape, sessionBytes, sessionOf, isSession}
+use Rattle.session_bytes.specs.Session.{sessionSize, onceShape, sessionShape, sessionBytes, sessionOf, isSession}
 use Rattle.session_bytes.proofs.Fields.{fields-back}
 
 -- all of them hold
@@ -44,52 +44,11 @@ below o w n l = ltb (num (part o w l)) n
 -- opened, ended, told, place, CR, gathered blank, SUO's extent, SUO blank
 abbrev pub numbers : List ℕ → List Bool
 numbers l =
-    below 0 1 2 l ∷ below 1 1 2 l ∷ below 2 1 2 l ∷ below 3 1 7 l ∷ below 61 1 2 l ∷ below 66 1 2 l ∷ below 228 4 5 l ∷ below 232 1 2 l ∷ []
+    below 0 1 2 l ∷ below 1 1 2 l ∷ below 2 1 2 l ∷ below 3 1 7 l ∷ below 61 1 2 l ∷ below 66 1 2 l ∷ below 228 1 5 l ∷ below 229 1 2 l ∷ []
 
 -- and the one-time key
 abbrev pub tests : List ℕ → List Bool
-tests l = numbers l ++ (ok (perhaps onceShape) 394 l ∷ [])
-
--- four bytes, of which all but the lowest are zero
-module _ (l : List ℕ) (n : length l ≡ sessionSize) where
-  four : num (part 228 4 l) ≡ num (part 228 1 l) + 256 * num (part 229 1 l) + 65536 * num (part 230 1 l) + 16777216 * num (part 231 1 l)
-  unfolding num
-  four =
-      rw (
-        part4 l 228 (omega arith),
-        part1 l 228 (omega arith),
-        part1 l 229 (omega arith),
-        part1 l 230 (omega arith),
-        part1 l 231
-            (omega arith),
-      )
-      (omega arith)
-
-  extent-test : ok extentShape 228 l ≡ below 228 4 5 l
-  unfolding ok width
-  extent-test =
-      let x = num (part 228 4 l) in
-      let a = num (part 228 1 l) in
-      let b = num (part 229 1 l) in
-      let c = num (part 230 1 l) in
-      let d = num (part 231 1 l) in
-      decided (ok extentShape 228 l) (ltb x 5)
-      (λ e.
-      let f = right (ltb a 5) (both (ltb b 1) (both (ltb c 1) (ltb d 1))) e in
-      let g = right (ltb b 1) (both (ltb c 1) (ltb d 1)) f in
-      lt-ltb x 5 (omega (
-        arith,
-        four,
-        ltb-true a 5 (left (ltb a 5) (both (ltb b 1) (both (ltb c 1) (ltb d 1))) e),
-        ltb-true b 1 (left (ltb b 1) (both (ltb c 1) (ltb d 1)) f),
-        ltb-true c 1 (left (ltb c 1) (ltb d 1) g),
-        ltb-true d 1 (right (ltb c 1) (ltb d 1) g),
-      )))
-      (λ e.
-      let h = ltb-true x 5 e in
-      join (ltb a 5) (both (ltb b 1) (both (ltb c 1) (ltb d 1))) (lt-ltb a 5 (omega (arith, four, h)))
-      (join (ltb b 1) (both (ltb c 1) (ltb d 1)) (lt-ltb b 1 (omega (arith, four, h)))
-      (join (ltb c 1) (ltb d 1) (lt-ltb c 1 (omega (arith, four, h))) (lt-ltb d 1 (omega (arith, four, h))))))
+tests l = numbers l ++ (ok (perhaps onceShape) 391 l ∷ [])
 
 -- the layout's groups one after the other
 flat : (a b c d e f g h k : Bool)
@@ -110,18 +69,15 @@ module _ (l : List ℕ) (n : length l ≡ sessionSize) where
   session-test : ok sessionShape 0 l ≡ every (tests l)
   unfolding ok width both
   session-test =
-      flat (below 0 1 2 l) (below 1 1 2 l) (below 2 1 2 l) (below 3 1 7 l) (below 61 1 2 l) (below 66 1 2 l) (ok extentShape 228 l)
-      (below 232 1 2 l) (ok (perhaps onceShape) 394 l)
-      ∙ ap (λ (t : Bool). every (below 0 1 2 l ∷ below 1 1 2 l ∷ below 2 1 2 l ∷ below 3 1 7 l ∷ below 61 1 2 l ∷ below 66 1 2 l ∷ t
-      ∷ below 232 1 2 l ∷ ok (perhaps onceShape) 394 l ∷ []))
-      (extent-test l n)
+      flat (below 0 1 2 l) (below 1 1 2 l) (below 2 1 2 l) (below 3 1 7 l) (below 61 1 2 l) (below 66 1 2 l) (below 228 1 5 l)
+      (below 229 1 2 l) (ok (perhaps onceShape) 391 l)
 
   module _ (b : AllBytes l) where
     by-tests : isSession l ≡ every (tests l)
     unfolding isSession sessionBytes sessionOf width
     by-tests =
         decides (eqb (length l) sessionSize) _ (eq-eqb (length l) sessionSize n)
-        ∙ (λ i. same (enc sessionShape (fields-back (dec sessionShape 0 l) i)) (sym (part-all l 475 (omega arith)) i))
+        ∙ (λ i. same (enc sessionShape (fields-back (dec sessionShape 0 l) i)) (sym (part-all l 472 (omega arith)) i))
         ∙ sym (exact sessionShape 0 l b (omega arith))
         ∙ session-test
 
@@ -130,8 +86,8 @@ module _ (l : List ℕ) (n : length l ≡ sessionSize) where
     refused k f = sym (by-tests ∙ one-fails (tests l) k f)
 
     -- the numbers pass
-    pub passed : Each (λ (x : Bool). x ≡ true) (numbers l) → ok (perhaps onceShape) 394 l ≡ isSession l
-    passed h = sym (by-tests ∙ last-decides (numbers l) (ok (perhaps onceShape) 394 l) h)
+    pub passed : Each (λ (x : Bool). x ≡ true) (numbers l) → ok (perhaps onceShape) 391 l ≡ isSession l
+    passed h = sym (by-tests ∙ last-decides (numbers l) (ok (perhaps onceShape) 391 l) h)
 
 -- another length is none
 pub wrong-length : (l : List ℕ) → (length l ≡ sessionSize → ⊥) → false ≡ isSession l

@@ -1,4 +1,4 @@
--- The place in a file, 0 to 6, and what was collected of a message, 0 to 4, as numbers; and a byte that is always zero.
+-- The place in a file, 0 to 6, and what was collected of a message, 0 to 4, as numbers.
 -- Assumes nothing.
 use mathlib.Core.Path.{_≡_, refl}
 use Prim.Native.Nat.{ℕ, zero, suc, _<_}
@@ -127,22 +127,4 @@ extents =
       small = extent-small;
       there = extent-there;
       back = extent-back;
-    }
-
--- ---- a byte that is always zero, and has nothing to say
-
-pub zero-back : (x : ℕ) → x < 1 → 0 ≡ x
-zero-back zero h = refl
-zero-back (suc x) h = absurd (omega arith)
-
-abbrev pub zeros : Named (Unit {0})
-zeros =
-    record {
-      size = 1;
-      number = λ u. 0;
-      numbered = λ x. tt;
-      byte = omega arith;
-      small = λ u. lit< tt;
-      there = λ u. refl;
-      back = zero-back;
     }

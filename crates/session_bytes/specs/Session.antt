@@ -20,11 +20,11 @@ use Rattle.session.specs.Machine.{unopened}
 use Rattle.session.specs.declared.Gathered.{Gathered}
 use Rattle.session.specs.declared.Batch.{Batch}
 use Rattle.session.specs.declared.Session.{Session}
-use Rattle.session_bytes.specs.Names.{places, extents, zeros}
+use Rattle.session_bytes.specs.Names.{places, extents}
 
--- a session takes 475 bytes
+-- a session takes 472 bytes
 abbrev pub sessionSize : ℕ
-sessionSize = 475
+sessionSize = 472
 
 -- ---- the layout
 
@@ -57,20 +57,9 @@ gatheredShape =
     flag ⊗  -- gathered.blank
     text 161  -- gathered.text
 
-abbrev pub extentBytes : Shape
-extentBytes =
-    named extents ⊗  -- its lowest byte
-    named zeros ⊗  -- and three that it does not need
-    named zeros ⊗  -- zero
-    named zeros  -- zero
-
-abbrev pub extentShape : Shape
-extentShape =
-    within extentBytes  -- four bytes
-
 abbrev pub suoShape : Shape
 suoShape =
-    extentShape ⊗  -- batch.suo.extent
+    named extents ⊗  -- batch.suo.extent
     flag ⊗  -- batch.suo.blank
     text 161  -- batch.suo.text
 
@@ -108,7 +97,7 @@ abbrev pub gatheredFrom : Value gatheredShape → Gathered
 gatheredFrom (count, (blank, characters)) = record { count = count; blank = blank; text = characters }
 
 abbrev pub suoFrom : Value suoShape → Collected
-suoFrom ((extent, rest), (blank, characters)) = record { extent = extent; blank = blank; text = characters }
+suoFrom (extent, (blank, characters)) = record { extent = extent; blank = blank; text = characters }
 
 abbrev pub keyFrom : Value (perhaps onceShape) → Key
 keyFrom none = Missing
@@ -153,11 +142,8 @@ frontTo s = (headTo s, (s .sender, (s .line .size, s .line .cr)))
 abbrev pub gatheredTo : Gathered → Value gatheredShape
 gatheredTo g = (g .count, (g .blank, g .text))
 
-abbrev pub extentTo : Extent → Value extentShape
-extentTo x = (x, (tt, (tt, tt)))
-
 abbrev pub suoTo : Collected → Value suoShape
-suoTo c = (extentTo (c .extent), (c .blank, c .text))
+suoTo c = (c .extent, (c .blank, c .text))
 
 abbrev pub keyTo : Key → Value (perhaps onceShape)
 keyTo Missing = none

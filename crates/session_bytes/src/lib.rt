@@ -11,7 +11,7 @@ ghost use Rattle.session_bytes.specs.Session.{runningShape, batchShape, 
 ghost use Rattle.session_bytes.specs.Session.{batchTo, sessionBytes, sessionOf, isSession, sessionIn, sessionStored};
 
 // The bytes that a session takes.
-const SIZE: usize = 475;
+const SIZE: usize = 472;
 
 // ---- reading, where the bytes have a session's length
 
@@ -90,10 +90,10 @@ fn suo_in(b: &[u8]) -> message::Collected
     ensures { λ r. ⌜ r ≡ sessionOf (now (b .entry)) .batch .suo ⌝ }
 {
     let mut text = [0u8; 161];
-    codec::read_bytes(&mut text, b, 233);
+    codec::read_bytes(&mut text, b, 230);
     message::Collected {
         extent: extent_numbered(codec::read1(b, 228)),
-        blank: codec::read1(b, 232) == 1,
+        blank: codec::read1(b, 229) == 1,
         text,
     }
 }
@@ -102,10 +102,10 @@ fn key_in(b: &[u8]) -> changeover::Key
     requires { ⌜ length (now b) ≡ sessionSize ⌝ }
     ensures { λ r. ⌜ r ≡ sessionOf (now (b .entry)) .batch .once ⌝ }
 {
-    if codec::read1(b, 394) != 1 {
+    if codec::read1(b, 391) != 1 {
         return changeover::Key::Missing;
     }
-    changeover::Key::Is(codec::read8(b, 395))
+    changeover::Key::Is(codec::read8(b, 392))
 }
 
 fn state_at(b: &[u8], at: usize) -> digest::State
@@ -126,9 +126,9 @@ fn batch_in(b: &[u8]) -> session::Batch
 {
     let suo = suo_in(b);
     let once = key_in(b);
-    let start = state_at(b, 403);
-    let solid = state_at(b, 427);
-    let last = state_at(b, 451);
+    let start = state_at(b, 400);
+    let solid = state_at(b, 424);
+    let last = state_at(b, 448);
     let running = digest::Running { start, solid, last };
     session::Batch { suo, once, running }
 }
@@ -166,13 +166,13 @@ fn session_in(b: &[u8]) -> session::Session
 // Whether the 9 bytes of the one-time key are just what it is written as: all zero, unless it is held.
 fn is_exact_key(b: &[u8]) -> bool
     requires { ⌜ length (now b) ≡ sessionSize ⌝ }
-    ensures { λ r. ⌜ r ≡ ok (perhaps onceShape) 394 (now (b .entry)) ⌝ }
+    ensures { λ r. ⌜ r ≡ ok (perhaps onceShape) 391 (now (b .entry)) ⌝ }
 {
-    if codec::read1(b, 394) == 1 {
+    if codec::read1(b, 391) == 1 {
         return true;
     }
     let zeros = [0u8; 9];
-    codec::same_at(&zeros, b, 394)
+    codec::same_at(&zeros, b, 391)
 }
 
 // Whether bytes are a session's.
@@ -200,10 +200,10 @@ pub fn is_session(b: &[u8]) -> bool
     if codec::read1(b, 66) > 1 {
         return false;
     }
-    if codec::read4(b, 228) > 4 {
+    if codec::read1(b, 228) > 4 {
         return false;
     }
-    if codec::read1(b, 232) > 1 {
+    if codec::read1(b, 229) > 1 {
         return false;
     }
     is_exact_key(b)
@@ -303,9 +303,9 @@ fn store_suo(b: &mut [u8], c: message::Collected)
     ensures sizes { λ _. ⌜ Sized suoShape (suoTo c) ⌝ }
 {
     let extent = c.extent;
-    codec::write4(b, 228, extent_number(extent));
-    codec::write1(b, 232, codec::flag_number(c.blank));
-    codec::write_bytes(b, 233, &c.text);
+    codec::write1(b, 228, extent_number(extent));
+    codec::write1(b, 229, codec::flag_number(c.blank));
+    codec::write_bytes(b, 230, &c.text);
 }
 
 // The numbers past the SUO: zeros where no key is held.
@@ -354,7 +354,7 @@ fn store_batch(b: &mut [u8], a: session::Batch)
     let suo = a.suo;
     let running = running_row(a);
     store_suo(b, suo);
-    codec::write_row(b, 394, &[1, 8, 8, 8, 8, 8, 8, 8, 8, 8, 8], &running);
+    codec::write_row(b, 391, &[1, 8, 8, 8, 8, 8, 8, 8, 8, 8, 8], &running);
 }
 
 fn store_session(b: &mut [u8], s: session::Session)

@@ -271,11 +271,17 @@ E101OD|ESI too short
 E102OD|ESI length not digits
 E103OD|ESI length not the layout's
 E100OD|ESI format|016a
-E100OD|ESI value|008130
-E100OD|ESI format and value|016a|008130
+E100OD|ESI value|011K
+E100OD|ESI format and value|016a|011K
 E100OD|ESI value and version|011K|008110
 E100OD|ESI version|008110
 E100OD|ESI version and receiver|008110|035X
+E100OD|ESI of version 130|008130
+E100OD|ESI of version 130 and length 162|005162|008130
+E100OD|ESI of length 162|005162
+E100OD|ESI of length 162 and version 110|005162|008110
+E100OD|ESI of length 162 and version 119|005162|008119
+E100OD|ESI of version 100 and receiver|008100|035X
 ",
     );
 }
@@ -329,6 +335,10 @@ F100OD|VAR format|016a
 F100OD|VAR format and value|016a|011K
 F100OD|VAR value|011K
 F100OD|VAR value and version|011K|||008110
+F100OD|SUO of length 129||||005129
+F100OD|VAR of length 162|005162
+F100OD|frame of version 130|008130|||008130
+F100OD|frame of version 130 and unlike lengths|005162|008130||005500|008130
 ",
     );
 }
@@ -338,6 +348,7 @@ fn frame_parties(t: &[u8]) {
         t,
         b"F100OD|frame version|008110|||008110
 F100OD|frame version and receiver|008110|035X||008110|035X
+F100OD|frame of version 111|008111|||008111
 F100OD|frame receiver|035X|||035X
 F100OD|frame receiver and sender|035X|060X||035X|060X
 F100OD|frame sender, who is then not agreed|060X|||060X
@@ -353,6 +364,8 @@ fn frame_fields(t: &[u8]) {
     each(
         t,
         b"F100OD|unequal versions|008110
+F100OD|unequal versions, the VAR's too old|008100
+F100OD|unequal versions, both newer|008130|||008131
 F100OD|unequal versions and receivers|008110|035X
 F100OD|unequal receivers|035X
 F100OD|unequal receivers and senders|035X|060X

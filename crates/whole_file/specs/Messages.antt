@@ -1,12 +1,12 @@
--- How records make a message (document 01, 'Reading the file').
+-- How records make a message (document 01, 'Reading the file'; document 02, R-2).
 -- Assumes nothing.
-use Prim.Native.Nat.{ℕ}
+use Prim.Native.Nat.{ℕ, min}
 use Prim.Native.String.{String}
 use mathlib.Core.Bool.{Bool, true, false}
 use mathlib.Core.List.{List, _++_}
-use lib.Dec.{eqb, ltb}
+use lib.Dec.{ltb}
 use lib.ListN.{length, take, drop, replicate}
-use Rattle.ground.specs.Choice.{fails, pick}
+use Rattle.ground.specs.Choice.{fails, pick, between}
 use Rattle.ground.specs.Lists.{all, same}
 use Rattle.text.specs.Characters.{digit, allBlank}
 use Rattle.text.specs.Numbers.{decimal}
@@ -40,17 +40,21 @@ begins s chars = same (take 5 chars) (letters s)
 abbrev pub headLength : ℕ
 headLength = 11
 
+-- a message may have grown to as many characters, with the old fields in place (document 001, 4.5)
+abbrev pub mostLength : ℕ
+mostLength = 500
+
 -- field 2, which states the message's length
 abbrev pub statedLength : List ℕ → List ℕ
 statedLength chars = fieldText (field 2) chars
 
--- a message whose first record is under 11 characters is that record alone; otherwise a length that isn't digits or isn't the layout's
--- makes a faulty message of that one record; else it is collected whole
+-- a message whose first record is under 11 characters is that record alone; otherwise a length that isn't digits, or isn't from the
+-- layout's to 500, makes a faulty message of that one record; else it is collected whole, and judged afterwards
 unfoldable pub extentOf : Kind → List ℕ → Extent
 extentOf kind chars =
     pick (ltb (length chars) headLength) TooShort
     (pick (fails (all digit (statedLength chars))) LengthNotDigits
-    (pick (fails (eqb (decimal (statedLength chars)) (layoutLength kind))) OtherLength Whole))
+    (pick (fails (between (layoutLength kind) mostLength (decimal (statedLength chars)))) OtherLength Whole))
 
 unfoldable pub isWhole : Extent → Bool
 isWhole Whole = true
@@ -61,25 +65,26 @@ isWhole CutShort = false
 
 -- ---- a message as its records come
 
--- the length that a message under way has to reach
-abbrev pub wantedLength : Kind → ℕ
-wantedLength kind = layoutLength kind
+-- the length that a message under way has to reach: the one that it states, and none goes past 500
+unfoldable pub wantedLength : List ℕ → ℕ
+wantedLength chars = min (decimal (statedLength chars)) mostLength
 
 -- it is not yet reached
-unfoldable pub wantsMore : Kind → List ℕ → Bool
-wantsMore kind chars = ltb (length chars) (wantedLength kind)
+unfoldable pub wantsMore : List ℕ → Bool
+wantsMore chars = ltb (length chars) (wantedLength chars)
 
--- a collected message has room for the characters of the longest kind; zeros after the last
+-- a collected message has room for the known fields of the longest kind; zeros after the last
 abbrev pub textRoom : ℕ
 textRoom = 161
 
-unfoldable pub textOf : List ℕ → List ℕ
-textOf chars = take textRoom (chars ++ replicate textRoom 0)
+-- the known fields are the first characters, as many as the layout has; the rest is passed over
+unfoldable pub knownText : Kind → List ℕ → List ℕ
+knownText kind chars = take textRoom (take (layoutLength kind) chars ++ replicate textRoom 0)
 
--- a message by its characters; those over in its last record are blank or not
+-- a message by its characters; those over in its last record, past the stated length, are blank or not
 unfoldable pub collectedAs : Kind → Extent → List ℕ → Collected
 collectedAs kind extent chars =
-    record { extent = extent; blank = allBlank (drop (wantedLength kind) chars); text = textOf chars }
+    record { extent = extent; blank = allBlank (drop (wantedLength chars) chars); text = knownText kind chars }
 
 -- ---- the one-time key
 

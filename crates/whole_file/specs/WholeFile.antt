@@ -124,15 +124,15 @@ varEnds o s f m =
 
 unfoldable pub esiGoesOn : Opening → Standing → List ℕ → Step
 esiGoesOn o s chars =
-    pick (wantsMore Esi chars) (silent (moved s (collectingEsi chars))) (esiEnds o s (collectedAs Esi Whole chars))
+    pick (wantsMore chars) (silent (moved s (collectingEsi chars))) (esiEnds o s (collectedAs Esi Whole chars))
 
 unfoldable pub suoGoesOn : Standing → List ℕ → Step
 suoGoesOn s chars =
-    pick (wantsMore Suo chars) (silent (moved s (collectingSuo chars))) (suoEnds s (collectedAs Suo Whole chars))
+    pick (wantsMore chars) (silent (moved s (collectingSuo chars))) (suoEnds s (collectedAs Suo Whole chars))
 
 unfoldable pub varGoesOn : Opening → Standing → Opened → List ℕ → Step
 varGoesOn o s f chars =
-    pick (wantsMore Var chars) (silent (moved s (collectingVar chars f))) (varEnds o s f (collectedAs Var Whole chars))
+    pick (wantsMore chars) (silent (moved s (collectingVar chars f))) (varEnds o s f (collectedAs Var Whole chars))
 
 -- ---- a message's first record
 

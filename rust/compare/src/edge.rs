@@ -16,10 +16,12 @@ pub enum Slip {
     BytesPastTheTableCleared,
     AnyFloorAccepted,
     DataTypeOutOfRangeAccepted,
+    CharactersCountedTo161,
+    SurplusForgottenAtReadsEnd,
 }
 
 impl Slip {
-    pub const ALL: [Slip; 9] = [
+    pub const ALL: [Slip; 11] = [
         Slip::TakenAndReplyLengthExchanged,
         Slip::WaitingCrNotKept,
         Slip::KeysMadeNotKept,
@@ -29,6 +31,8 @@ impl Slip {
         Slip::BytesPastTheTableCleared,
         Slip::AnyFloorAccepted,
         Slip::DataTypeOutOfRangeAccepted,
+        Slip::CharactersCountedTo161,
+        Slip::SurplusForgottenAtReadsEnd,
     ];
 }
 
@@ -72,6 +76,10 @@ impl Edge {
         match self.0 {
             Slip::WaitingCrNotKept => session[61] = 0,
             Slip::KeysMadeNotKept => session[24..32].fill(0),
+            Slip::CharactersCountedTo161 if session[63] > 0 || session[62] > 161 => {
+                (session[62], session[63]) = (161, 0)
+            }
+            Slip::SurplusForgottenAtReadsEnd => session[66] = 1,
             Slip::BytesPastTheReplyWritten => {
                 reply.iter_mut().skip(outcome.reply_length).take(1).for_each(|b| *b = b' ');
             }

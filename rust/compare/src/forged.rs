@@ -3,7 +3,7 @@
 //! of its sessions are written over.
 use model::calendar::is_real_time;
 use model::case::{Call, Case, Front, ModelFront, Outcome, Step, MARGIN};
-use model::fields::NOTICE;
+use model::fields::{number, LENGTH, LONGEST, NOTICE, VERSION};
 use model::generate::{self, Dice};
 use model::{Bank, TABLE};
 use std::fmt;
@@ -43,6 +43,9 @@ pub struct Seen {
     /// Served and accepted on a session that was forged before.
     pub forged_served: u64,
     pub forged_accepted: u64,
+    /// Messages on their way that were looked at after a read, and those of them past their 161st character.
+    pub on_their_way: u64,
+    pub past_161: u64,
 }
 
 impl Seen {
@@ -52,6 +55,8 @@ impl Seen {
         self.accepted += other.accepted;
         self.forged_served += other.forged_served;
         self.forged_accepted += other.forged_accepted;
+        self.on_their_way += other.on_their_way;
+        self.past_161 += other.past_161;
     }
 }
 
@@ -72,13 +77,15 @@ const COUNT: usize = 62;
 const BLANK: usize = 66;
 const TEXT: usize = 67;
 const ALONE: usize = 228;
-const SUO_BLANK: usize = 232;
-const SUO: usize = 233;
-const HELD: usize = 394;
-const ONCE: usize = 395;
-const DIGEST: usize = 403;
-const SIZE: usize = 475;
+const SUO_BLANK: usize = 229;
+const SUO: usize = 230;
+const HELD: usize = 391;
+const ONCE: usize = 392;
+const DIGEST: usize = 400;
+const SIZE: usize = 472;
 const CLOSED: u8 = 6;
+/// The characters of a message that a session keeps.
+const KEPT: usize = 161;
 
 fn word(s: &[u8], at: usize) -> u32 {
     u32::from_le_bytes(s[at..at + 4].try_into().expect("four"))
@@ -93,8 +100,8 @@ fn is_open(s: &[u8], day: u32) -> bool {
         && word(s, DAY) == day
         && is_real_time(word(s, TIME))
         && (1..=16).contains(&word(s, DATA_TYPE))
-        && word(s, COUNT) <= 161
-        && word(s, ALONE) <= 3
+        && word(s, COUNT) <= LONGEST as u32
+        && s[ALONE] <= 3
         && (s[HELD] == 1 || s[ONCE..DIGEST].iter().all(|&b| b == 0))
 }
 
@@ -110,11 +117,66 @@ fn refusal(table: &[u8], session: &[u8], room: usize, reading: bool) -> u32 {
     0
 }
 
+/// A message on its way after a read that ended no record and settled nothing: its characters at their places,
+/// counted up to 500, the first 161 kept; of those past both the 161st and the stated length it is kept whether they
+/// were blank. Nothing says which those are where the length isn't digits. None where no message was on its way, or a
+/// record ended.
+fn goes_on(before: &[u8], after: &[u8], bytes: &[u8]) -> Option<Result<(), String>> {
+    if !(2..=4).contains(&before[PLACE]) || bytes.contains(&b'\n') {
+        return None;
+    }
+    // A CR is a character once a byte other than LF comes after it.
+    let waiting = (before[CR] == 1).then_some(b'\r');
+    let mut chars: Vec<u8> = waiting.into_iter().chain(bytes.iter().copied()).collect();
+    let cr = chars.last() == Some(&b'\r');
+    if cr {
+        chars.pop();
+    }
+    let first = word(before, COUNT) as usize;
+    let places = || (first..).map(|at| at.min(LONGEST)).zip(&chars);
+    let count = (first + chars.len()).min(LONGEST);
+    let mut text = before[TEXT..TEXT + KEPT].to_vec();
+    places().filter(|(at, _)| *at < KEPT).for_each(|(at, b)| text[at] = *b);
+    let held = count.min(KEPT);
+    let same = after[PLACE] == before[PLACE]
+        && after[CR] == cr as u8
+        && word(after, COUNT) == count as u32
+        && after[TEXT..TEXT + held] == text[..held];
+    let stated = LENGTH.of(&text);
+    let blank = !stated.iter().all(u8::is_ascii_digit) || {
+        let from = (number(stated) as usize).clamp(KEPT, LONGEST);
+        let blank = before[BLANK] == 1 && places().all(|(at, b)| at < from || *b == b' ');
+        after[BLANK] == blank as u8
+    };
+    Some(
+        ensure(same, "a message on its way is not kept as it came")
+            .and(ensure(blank, "whether characters over were blank is not kept as they came")),
+    )
+}
+
+/// A message's first characters.
+const HEADS: [&[u8]; 9] = [
+    b">>ESI161120",
+    b">>SUO128120",
+    b">>VAR161120",
+    b">>ESI500130",
+    b">>SUO200121",
+    b">>SUO161999",
+    b">>VAR162130",
+    b">>VAR499121",
+    b">>VAR501130",
+];
+const LENGTHS: [&[u8]; 14] =
+    [b"000", b"127", b"128", b"129", b"160", b"161", b"162", b"200", b"499", b"500", b"501", b"999", b"16 ", b"\xFF00"];
+const VERSIONS: [&[u8]; 9] = [b"100", b"109", b"110", b"111", b"119", b"120", b"121", b"999", b"12x"];
+
 fn forging(d: &mut Dice, step: usize, slot: usize) -> Forging {
     let put = |at: usize, bytes: Vec<u8>| Forging { step, slot, at, bytes };
     let random = |d: &mut Dice, n: usize| (0..n).map(|_| d.draw() as u8).collect::<Vec<u8>>();
     let number = |n: u32| n.to_le_bytes().to_vec();
-    match d.below(30) {
+    let count =
+        |d: &mut Dice| d.pick(&[0, 1, 4, 5, 10, 11, 127, 128, 129, 160, 161, 162, 199, 200, 201, 498, 499, 500]);
+    match d.below(35) {
         // In range.
         0 | 1 => put(PLACE, vec![d.below(6) as u8]),
         2 => put(TOLD, vec![d.below(2) as u8]),
@@ -126,16 +188,16 @@ fn forging(d: &mut Dice, step: usize, slot: usize) -> Forging {
         8 => put(SENDER, random(d, 25)),
         9 | 10 => put(TAKEN, number(u32::MAX - d.pick(&[0, 1, 2, 5, 100, 300, 700]))),
         11 => put(CR, vec![d.below(2) as u8]),
-        12 => put(COUNT, number(d.pick(&[0, 1, 4, 5, 10, 11, 127, 128, 129, 160, 161]))),
+        12 => put(COUNT, number(count(d))),
         13 => put(BLANK, vec![d.below(2) as u8]),
         14 => {
-            let at = d.below(161);
-            let n = 1 + d.below(161 - at);
+            let at = d.below(KEPT);
+            let n = 1 + d.below(KEPT - at);
             let base = d.pick(&[TEXT, SUO]);
             put(base + at, random(d, n))
         }
-        15 => put(d.pick(&[TEXT, SUO]), d.pick(&[b">>ESI161120", b">>SUO128120", b">>VAR161120"]).to_vec()),
-        16 => put(ALONE, number(d.below(4) as u32)),
+        15 => put(d.pick(&[TEXT, SUO]), d.pick(&HEADS).to_vec()),
+        16 => put(ALONE, vec![d.below(4) as u8]),
         17 => put(SUO_BLANK, vec![d.below(2) as u8]),
         18 => {
             let mut key = vec![1];
@@ -149,16 +211,40 @@ fn forging(d: &mut Dice, step: usize, slot: usize) -> Forging {
             let at = d.pick(&[TEXT, SUO]) + d.below(128);
             put(at, vec![d.pick(b"0123456789ABCDEF >\n\r\x00\xC4")])
         }
+        23 => put(d.pick(&[TEXT, SUO]) + LENGTH.at, d.pick(&LENGTHS).to_vec()),
+        24 => put(d.pick(&[TEXT, SUO]) + VERSION.at, d.pick(&VERSIONS).to_vec()),
+        // As many characters of a message as this, blank over or not, and how it begins.
+        25 | 26 => {
+            let many = count(d);
+            put(COUNT, [&number(many)[..], &[d.below(2) as u8], d.pick(&HEADS)].concat())
+        }
+        27 => put(PLACE, vec![2 + d.below(3) as u8]),
         // Outside, or perhaps.
-        23 => put(d.pick(&[OPENED, ENDED, TOLD, CR, BLANK, SUO_BLANK, HELD]), vec![d.pick(&[0, 1, 2, 3, 128, 255])]),
-        24 => put(PLACE, vec![d.pick(&[6, 7, 8, 255])]),
-        25 => put(
-            d.pick(&[TIME, DATA_TYPE, COUNT, ALONE, DAY]),
-            number(d.pick(&[0, 4, 16, 17, 161, 162, 236000, 240000, 126060, 0x0100_0000, 0x0100_0001, u32::MAX])),
+        28 => put(d.pick(&[OPENED, ENDED, TOLD, CR, BLANK, SUO_BLANK, HELD]), vec![d.pick(&[0, 1, 2, 3, 128, 255])]),
+        29 => put(d.pick(&[PLACE, ALONE]), vec![d.pick(&[4, 5, 6, 7, 8, 128, 255])]),
+        30 => put(
+            d.pick(&[TIME, DATA_TYPE, COUNT, DAY]),
+            number(d.pick(&[
+                0,
+                4,
+                16,
+                17,
+                161,
+                162,
+                500,
+                501,
+                0x0100_01F4,
+                236000,
+                240000,
+                126060,
+                0x0100_0000,
+                0x0100_0001,
+                u32::MAX,
+            ])),
         ),
-        26 => put(HELD, vec![0, d.below(2) as u8, 0, 0, 0, 0, 0, 0, d.below(2) as u8]),
-        27 => put(d.below(SIZE), vec![d.draw() as u8]),
-        28 => {
+        31 => put(HELD, vec![0, d.below(2) as u8, 0, 0, 0, 0, 0, 0, d.below(2) as u8]),
+        32 => put(d.below(SIZE), vec![d.draw() as u8]),
+        33 => {
             let at = d.below(SIZE);
             let n = 1 + d.below(SIZE - at);
             put(at, random(d, n))
@@ -281,6 +367,13 @@ impl Driven<'_> {
         let day = word(&table, 4);
         ensure(is_open(&after[..SIZE], day) != o.finished, "finished is not what the session says")?;
         ensure(input.is_some() || o.finished || after[ENDED] == 1, "an end was not noted")?;
+        if let Some(bytes) = input.filter(|_| o.reply_length == 0) {
+            if let Some(kept) = goes_on(&session, after, bytes) {
+                kept?;
+                self.seen.on_their_way += 1;
+                self.seen.past_161 += (word(after, COUNT) > KEPT as u32) as u64;
+            }
+        }
         if o.finished {
             // Handed back closed, yet with its numbers in range.
             let mut opened = after.clone();
@@ -509,6 +602,102 @@ impl fmt::Display for Forged {
 #[cfg(test)]
 mod tests {
     use super::*;
+
+    /// The numbers adjoin, and a session ends with its three digests.
+    #[test]
+    fn the_numbers_of_a_session_adjoin() {
+        assert_eq!((TEXT + KEPT, ALONE + 1, SUO_BLANK + 1, SUO + KEPT), (ALONE, SUO_BLANK, SUO, HELD));
+        assert_eq!((HELD + 1, ONCE + 8, DIGEST + 3 * 24), (ONCE, DIGEST, SIZE));
+    }
+
+    /// An open session of day 941015 that collects a VAR, of which these characters have come.
+    fn collecting(chars: &[u8]) -> Vec<u8> {
+        let mut s = vec![0; SIZE];
+        (s[OPENED], s[PLACE], s[BLANK]) = (1, 4, 1);
+        s[DAY..DAY + 4].copy_from_slice(&941015u32.to_le_bytes());
+        s[DATA_TYPE] = 1;
+        s[COUNT..COUNT + 4].copy_from_slice(&(chars.len() as u32).to_le_bytes());
+        let held = chars.len().min(KEPT);
+        s[TEXT..TEXT + held].copy_from_slice(&chars[..held]);
+        s
+    }
+
+    #[test]
+    fn ranges_of_a_session() {
+        let good = collecting(b">>VAR500130");
+        assert!(is_open(&good, 941015) && !is_open(&good, 941016));
+        assert!(!is_open(&good[..SIZE - 1], 941015) && !is_open(&[&good[..], &[0]].concat(), 941015));
+        let changed = |at: usize, bytes: &[u8]| {
+            let mut s = good.clone();
+            s[at..at + bytes.len()].copy_from_slice(bytes);
+            is_open(&s, 941015)
+        };
+        assert!(changed(COUNT, &500u32.to_le_bytes()) && !changed(COUNT, &501u32.to_le_bytes()));
+        assert!(!changed(COUNT, &0x0100_0000u32.to_le_bytes()));
+        assert!(changed(ALONE, &[3]) && !changed(ALONE, &[4]) && !changed(ALONE, &[255]));
+        assert!(changed(SUO_BLANK, &[1]) && !changed(SUO_BLANK, &[2]) && changed(SUO, &[255; KEPT]));
+        assert!(changed(HELD, &[1, 255]) && !changed(HELD, &[0, 255]) && changed(DIGEST, &[255; 72]));
+    }
+
+    /// What a session keeps of a message, from its length and the characters that come.
+    #[test]
+    fn a_message_on_its_way() {
+        let head = |length: &str, n: usize| {
+            let mut chars = format!(">>VAR{length}130").into_bytes();
+            chars.resize(n, b'.');
+            chars
+        };
+        let kept = |length: &str, n: usize, more: &[u8], blank: bool| {
+            let (before, mut after) = (collecting(&head(length, n)), collecting(&[&head(length, n), more].concat()));
+            after[BLANK] = blank as u8;
+            let count = (n + more.len()).min(LONGEST) as u32;
+            after[COUNT..COUNT + 4].copy_from_slice(&count.to_le_bytes());
+            goes_on(&before, &after, more).expect("it collects").is_ok()
+        };
+        // The stated length bounds what is looked at, but not below 161 or past 500.
+        for (length, n, more, blank) in [
+            ("200", 199, &b"X"[..], true),
+            ("200", 200, b"X", false),
+            ("200", 200, b" ", true),
+            ("200", 198, b"XX ", true),
+            ("200", 198, b"XX X", false),
+            ("128", 160, b"X", true),
+            ("128", 161, b"X", false),
+            ("161", 161, b"X", false),
+            ("162", 161, b"X", true),
+            ("499", 499, b"X", false),
+            ("500", 499, b"X", true),
+            ("500", 500, b"X", false),
+            ("999", 499, b"X", true),
+            ("999", 500, b"X", false),
+            ("999", 500, b" ", true),
+            ("000", 161, b"X", false),
+        ] {
+            assert!(kept(length, n, more, blank) && !kept(length, n, more, !blank), "{length} {n}");
+        }
+        // Not digits: nothing says what is looked at.
+        assert!(kept("2x0", 300, b"X", true) && kept("2x0", 300, b"X", false));
+        // The length may come with the read itself.
+        let (before, mut after) = (collecting(b">>VAR"), collecting(&[&head("200", 200)[..], b"X"].concat()));
+        let more = [&head("200", 200)[5..], b"X"].concat();
+        assert!(goes_on(&before, &after, &more).expect("it collects").is_err());
+        after[BLANK] = 0;
+        assert!(goes_on(&before, &after, &more).expect("it collects").is_ok());
+    }
+
+    #[test]
+    fn a_cr_of_a_message_on_its_way() {
+        let (one, two) = (collecting(b">>VAR200130"), collecting(b">>VAR200130\rX"));
+        let mut waits = one.clone();
+        waits[CR] = 1;
+        let holds = |a: &[u8], b: &[u8], bytes: &[u8]| goes_on(a, b, bytes).expect("it collects").is_ok();
+        assert!(holds(&one, &waits, b"\r") && holds(&waits, &two, b"X") && holds(&one, &two, b"\rX"));
+        assert!(holds(&waits, &waits, b"") && !holds(&waits, &one, b"") && !holds(&one, &one, b"\r"));
+        // A record's end, or no message on its way: nothing is asked.
+        assert!(goes_on(&one, &two, b"X\n").is_none());
+        let outside = [&one[..PLACE], &[1], &one[PLACE + 1..]].concat();
+        assert!(goes_on(&outside, &two, b"X").is_none());
+    }
 
     /// The names have letters of their own; what is shown behind them has none but 20 to 7E.
     #[test]

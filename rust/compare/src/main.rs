@@ -2,12 +2,14 @@
 //!
 //!     compare SEED CASES            generated cases, spoiled tables, forged sessions and long batches from this seed on
 //!     compare planted SEED CASES    each planted fault has to be found within these cases
+//!     compare grid                  the whole grid of R-2, each file cut into reads of every size (takes about a minute)
 //!     compare size                  a file to the byte past the size limit (takes about a minute)
 //!
 //! A difference is printed with its case made small; the exit status is then 1.
 #![forbid(unsafe_code)]
 mod edge;
 mod forged;
+mod grid;
 mod long;
 mod spoiled;
 
@@ -25,11 +27,11 @@ const TRIES: usize = 4000;
 /// A long batch comes with one case in so many.
 const LONG: u64 = 250;
 
-fn show_case(front: &mut dyn Front, what: &str, seed: u64, case: &Case) {
+fn show_case(front: &mut dyn Front, what: &str, case: &Case) {
     let small = shrink(case, TRIES, &mut |c| compare(front, c).err().map(|d| d.step));
     match compare(front, &small) {
-        Err(d) => println!("{what}, seed {seed}, made small; call {}: {}\n{small}", d.step, d.what),
-        Ok(()) => println!("{what}, seed {seed}: it differs only before it is made small\n{case}"),
+        Err(d) => println!("{what}, made small; call {}: {}\n{small}", d.step, d.what),
+        Ok(()) => println!("{what}: it differs only before it is made small\n{case}"),
     }
 }
 
@@ -43,11 +45,16 @@ fn show_forged(front: &mut dyn Front, seed: u64) {
 
 /// One line that is written over where it goes to a terminal, and now and then a line elsewhere.
 struct Progress {
+    of: &'static str,
     began: Instant,
     told: f64,
 }
 
 impl Progress {
+    fn new(of: &'static str) -> Progress {
+        Progress { of, began: Instant::now(), told: 0.0 }
+    }
+
     fn tell(&mut self, done: u64, of: u64, differences: u64) {
         let (terminal, now) = (std::io::stderr().is_terminal(), self.began.elapsed().as_secs_f64());
         let pause = if terminal { 0.5 } else { 15.0 };
@@ -56,7 +63,8 @@ impl Progress {
         }
         self.told = now;
         let (start, end) = if terminal { ("\r", if done == of { "\n" } else { "" }) } else { ("", "\n") };
-        eprint!("{start}{done} of {of} cases, {differences} differences, {:.0} a second{end}", done as f64 / now);
+        let what = self.of;
+        eprint!("{start}{done} of {of} {what}, {differences} differences, {:.0} a second{end}", done as f64 / now);
         let _ = std::io::stderr().flush();
     }
 }
@@ -65,25 +73,25 @@ fn run(seed: u64, cases: u64) -> bool {
     let mut counts = Counts::default();
     let mut seen = forged::Seen::default();
     let mut spoiled_calls = [0u64; 2];
-    let mut progress = Progress { began: Instant::now(), told: 0.0 };
+    let mut progress = Progress::new("cases");
     let mut differences = 0;
     let front = &mut Edge(Slip::None);
     for s in seed..seed + cases {
         let case = generate::case(s);
         if compare_seen(front, &case, &mut |step, answer| counts.see(step, answer)).is_err() {
-            show_case(front, "case", s, &case);
+            show_case(front, &format!("case, seed {s}"), &case);
             differences += 1;
         }
         let case = spoiled::case(s);
         let count = &mut |_: &_, a: &model::Answer| spoiled_calls[(a.refusal == 2) as usize] += 1;
         if compare_seen(front, &case, count).is_err() {
-            show_case(front, "spoiled table", s, &case);
+            show_case(front, &format!("spoiled table, seed {s}"), &case);
             differences += 1;
         }
         if s % LONG == 0 {
             let case = long::case(s);
             if compare_seen(front, &case, &mut |step, answer| counts.see(step, answer)).is_err() {
-                show_case(front, "long batches", s, &case);
+                show_case(front, &format!("long batches, seed {s}"), &case);
                 differences += 1;
             }
         }
@@ -110,6 +118,7 @@ fn run(seed: u64, cases: u64) -> bool {
         "reads and ends with forged sessions about: {} served, {} refused, {} accepted; on a forged one: {} served, {} accepted",
         seen.served, seen.refused, seen.accepted, seen.forged_served, seen.forged_accepted
     );
+    println!("messages on their way after a read: {}, past character 161: {}", seen.on_their_way, seen.past_161);
     println!(
         "{cases} cases from seed {seed}, {:.0} seconds: {differences} differences",
         progress.began.elapsed().as_secs_f64()
@@ -152,6 +161,31 @@ fn planted(seed: u64, cases: u64) -> bool {
     every
 }
 
+/// Every file of the grid; the first few differences are shown, and the others counted.
+fn grid() -> bool {
+    let front = &mut Edge(Slip::None);
+    let (points, mut tried) = (grid::points(), grid::Tried::default());
+    let mut progress = Progress::new("points of the grid");
+    let mut differences = 0;
+    for point in &points {
+        tried.points += 1;
+        for file in point.files() {
+            let Err(parted) = tried.file(front, &file) else { continue };
+            differences += 1;
+            if differences <= 5 {
+                println!("{file}; reads of {} bytes, {}", parted.size, parted.what);
+                if compare(front, &parted.case).is_err() {
+                    show_case(front, "the same", &parted.case);
+                }
+            }
+        }
+        progress.tell(tried.points, points.len() as u64, differences);
+    }
+    println!("{tried}");
+    println!("the grid of R-2, {:.0} seconds: {differences} differences", progress.began.elapsed().as_secs_f64());
+    differences == 0
+}
+
 fn size() -> bool {
     match model::size::compare_size(&mut Edge(Slip::None)) {
         Ok(codes) => {
@@ -170,13 +204,14 @@ fn main() {
     let number = |w: &str| w.parse::<u64>().ok();
     let words: Vec<&str> = words.iter().map(|w| w.as_str()).collect();
     let well = match words[..] {
+        ["grid"] => grid(),
         ["size"] => size(),
         ["planted", a, b] if number(a).is_some() && number(b).is_some() => {
             planted(number(a).unwrap(), number(b).unwrap())
         }
         [a, b] if number(a).is_some() && number(b).is_some() => run(number(a).unwrap(), number(b).unwrap()),
         _ => {
-            eprintln!("usage: compare SEED CASES | compare planted SEED CASES | compare size");
+            eprintln!("usage: compare SEED CASES | compare planted SEED CASES | compare grid | compare size");
             exit(2);
         }
     };

@@ -66,7 +66,7 @@ fn the_functions_give_the_known_answers() {
     let (k, v) = (0x0123456789ABCDEF, 0xFEDCBA9876543210);
     let days = [941206, 941226, 950106];
     let (t, s) = (49_152, lp_session_size() as usize);
-    let mut x = Told { table: vec![0x5A; t], session: vec![0; s], out: format!("session_size {s} 475\n") };
+    let mut x = Told { table: vec![0x5A; t], session: vec![0; s], out: format!("session_size {s} 472\n") };
 
     x.call("order", |t| lp_order(t, 941015, &a, 1));
     x.call("set_up", |t| lp_set_up(t, &bank, &software, 110, k, v, &[941301]));

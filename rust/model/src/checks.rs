@@ -5,7 +5,7 @@ use crate::des::decipher;
 use crate::fields::*;
 use crate::file::{Fault, File, Frame};
 use crate::keys::has_odd_parity;
-use crate::mac::{checksum, digest, from_hex16, Method};
+use crate::mac::{checksum, digest, from_hex16, is_field_character, Method};
 use crate::reply::{reply, Repeated, ReplyKind};
 
 /// A bare reply.
@@ -15,12 +15,32 @@ pub fn bare(bank: &Bank, file: &File, kind: ReplyKind, notice: Notice) -> Vec<u8
 
 /// 1032, 1010 and 1011 of one message.
 fn own_fault(file: &File, kind: Kind, message: &Message) -> Option<Notice> {
-    let notice = fault(kind, message)?;
     match message {
-        Message::Whole { over, .. } if file.fault == Fault::SurplusShown && notice.field == Some(LENGTH) => {
-            Some(Notice { value: Some(over.clone()), ..notice })
+        Message::Whole { chars, over } if file.fault != Fault::None => planted_fault(file.fault, kind, chars, over),
+        _ => fault(kind, message),
+    }
+}
+
+/// The same of a whole message, with a fault planted.
+fn planted_fault(planted: Fault, kind: Kind, chars: &[u8], over: &[u8]) -> Option<Notice> {
+    let judged = |chars: &[u8]| fault(kind, &Message::Whole { chars: chars.to_vec(), over: over.to_vec() });
+    let notice = judged(chars);
+    let (known, rest) = chars.split_at(kind.length());
+    let surplus = Some(showing(1010, LENGTH, LENGTH.of(chars)));
+    match planted {
+        Fault::SurplusShown if notice == surplus => Some(showing(1010, LENGTH, over)),
+        Fault::OneOverTakenOf120 if VERSION.of(chars) == b"120" && rest.len() == 1 => {
+            let mut shorter = known.to_vec();
+            shorter[LENGTH.at..LENGTH.end()].copy_from_slice(kind.length().to_string().as_bytes());
+            judged(&shorter)
         }
-        _ => Some(notice),
+        Fault::RestLookedAt if !rest.iter().all(|&b| is_field_character(b)) => surplus,
+        Fault::SurplusFromLayout if !is_blank(rest) => surplus,
+        Fault::SuoReadTo161 if kind == Kind::Suo && chars.len() >= Kind::Var.length() => {
+            let bad = |f: &Field| !has_good_form(Kind::Var, *f, f.of(chars));
+            notice.or_else(|| [DIGEST, CHECKSUM].into_iter().find(bad).map(|f| showing(1010, f, f.of(chars))))
+        }
+        _ => notice,
     }
 }
 
@@ -51,9 +71,16 @@ fn sender(bank: &Bank, file: &File, chars: &[u8]) -> Option<usize> {
     bank.find(SENDER.of(chars))
 }
 
+/// 1012: below the floor, or below 120 and not 110, whatever the floor is.
+pub(crate) fn is_too_old(version: u64, floor: u32) -> bool {
+    version < floor as u64 || (version < 120 && version != 110)
+}
+
 /// 1012, 1021, 1033, 1035: who is speaking to whom, and in which version.
 fn known(bank: &Bank, file: &File, chars: &[u8]) -> Result<usize, Notice> {
-    if number(VERSION.of(chars)) < bank.floor as u64 {
+    let version = number(VERSION.of(chars));
+    let between = file.fault == Fault::VersionBetweenTaken && (111..=119).contains(&version);
+    if is_too_old(version, bank.floor) && !(between && bank.floor == 110) {
         return Err(code(1012));
     }
     if *RECEIVER.of(chars) != bank.bank {
@@ -202,7 +229,7 @@ fn esi_fault(bank: &mut Bank, file: &File, at: usize, chars: &[u8]) -> Option<u3
 /// The one-time key a SUO brings: field 15 deciphered under the transport key generation it
 /// names, if the sender holds that at SUO's end, whatever the date.
 pub fn one_time_key(bank: &Bank, file: &File, suo: &Message) -> Option<u64> {
-    if fault(Kind::Suo, suo).is_some() {
+    if own_fault(file, Kind::Suo, suo).is_some() {
         return None;
     }
     let Message::Whole { chars, .. } = suo else { return None };

@@ -1,7 +1,8 @@
-//! How often each notice, each field named by one, and each refusal came up.
+//! How often each notice, each field named by one, each refusal and each sentence of R-2 came up.
 use crate::case::{Call, Step};
 use crate::fields::{Kind, COMPARED, FIELDS, NOTICE};
 use crate::file::Answer;
+use crate::newer;
 use crate::together::{Watched, ESI, FRAME};
 use std::collections::BTreeMap;
 
@@ -22,6 +23,8 @@ pub struct Counts {
     pub pairs: BTreeMap<(char, &'static str, &'static str), u64>,
     /// 1010 and 1011 told of a message's field, by the kind of message, code and the field's name.
     pub told: BTreeMap<(Kind, u32, &'static str), u64>,
+    /// What of R-2 the messages judged have shown.
+    pub newer: BTreeMap<String, u64>,
     /// Accepted calls by name.
     pub calls: BTreeMap<&'static str, u64>,
 }
@@ -47,6 +50,9 @@ impl Counts {
             return;
         }
         *self.calls.entry(call).or_default() += 1;
+        for shown in answer.judged.iter().flat_map(|j| newer::shown(j, matches!(step.call, Call::End { .. }))) {
+            *self.newer.entry(shown).or_default() += 1;
+        }
         let Some(reply) = &answer.reply else { return };
         let code: u32 = String::from_utf8_lossy(&reply[12..16]).parse().expect("a code");
         let kind = if reply[2] == b'E' { 'E' } else { 'P' };
@@ -107,7 +113,7 @@ impl Counts {
                 out.push(format!("notice {code}"));
             }
         }
-        let values = ["1", "2", "3", "4", "5", "6", "7", "12.1", "12.2", "13", "14", "15", "16", "18"];
+        let values = ["1", "2", "4", "5", "6", "7", "12.1", "12.2", "13", "14", "15", "16", "18"];
         for f in FIELDS {
             if f.number != "18" && self.field(1010, f.name) == 0 {
                 out.push(format!("1010 {}", f.name));
@@ -126,12 +132,13 @@ impl Counts {
                 out.push(format!("refusal {n}"));
             }
         }
+        out.extend(newer::all().into_iter().filter(|what| !self.newer.contains_key(what)));
         out
     }
 
     /// What was never told of a field of all that can be, by the kind of message.
     pub fn untold(&self) -> Vec<String> {
-        let values = ["2", "3", "4", "5", "6", "7", "12.1", "12.2", "13", "14", "18"];
+        let values = ["2", "4", "5", "6", "7", "12.1", "12.2", "13", "14", "18"];
         let mut out = Vec::new();
         for kind in [Kind::Esi, Kind::Suo, Kind::Var] {
             // A message is one by its field 1.
@@ -160,6 +167,10 @@ impl Counts {
                     println!("  {field:<16}{n:>8}");
                 }
             }
+        }
+        println!("longer messages and their versions:");
+        for what in newer::all() {
+            println!("  {what:<64}{:>8}", self.newer.get(&what).copied().unwrap_or(0));
         }
         println!("refusals:");
         for n in 1..=12 {

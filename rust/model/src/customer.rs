@@ -24,6 +24,9 @@ pub struct Wish {
     pub request: u8,
     /// In the clear.
     pub one_time_key: u64,
+    /// What follows the known fields of an ESI or a VAR, and of a SUO; the length that the message states covers it.
+    pub rest: Vec<u8>,
+    pub suo_rest: Vec<u8>,
 }
 
 impl Wish {
@@ -45,6 +48,8 @@ impl Wish {
             method: Method::Skh,
             request: b'0',
             one_time_key: 0x5208290ED9BF0B6D,
+            rest: Vec::new(),
+            suo_rest: Vec::new(),
         }
     }
 }
@@ -53,9 +58,11 @@ pub fn put(chars: &mut [u8], f: Field, value: &[u8]) {
     chars[f.at..f.end()].copy_from_slice(value);
 }
 
-/// Fields 1 to 14, the rest blank.
-fn beginning(wish: &Wish, tag: &[u8], method: &[u8], length: usize) -> Vec<u8> {
-    let mut m = vec![b' '; length];
+/// Fields 1 to 14, the other known ones blank, and the rest.
+fn beginning(wish: &Wish, tag: &[u8], method: &[u8], kind: Kind) -> Vec<u8> {
+    let mut m = vec![b' '; kind.length()];
+    m.extend(if kind == Kind::Suo { &wish.suo_rest } else { &wish.rest });
+    let length = m.len();
     put(&mut m, TAG, tag);
     put(&mut m, LENGTH, format!("{length:03}").as_bytes());
     put(&mut m, VERSION, format!("{:03}", wish.version).as_bytes());
@@ -79,7 +86,7 @@ pub fn seal(message: &mut [u8], working_key: u64) {
 }
 
 pub fn esi(wish: &Wish) -> Vec<u8> {
-    let mut m = beginning(wish, b">>ESI", b"SMH", Kind::Esi.length());
+    let mut m = beginning(wish, b">>ESI", b"SMH", Kind::Esi);
     put(&mut m, REQUEST, &[wish.request]);
     seal(&mut m, wish.working_key);
     m
@@ -87,7 +94,7 @@ pub fn esi(wish: &Wish) -> Vec<u8> {
 
 pub fn suo(wish: &Wish) -> Vec<u8> {
     let method = if wish.method == Method::Skh { b"SKH" } else { b"SKE" };
-    let mut m = beginning(wish, b">>SUO", method, Kind::Suo.length());
+    let mut m = beginning(wish, b">>SUO", method, Kind::Suo);
     put(&mut m, AREA, &[wish.area]);
     put(&mut m, ONE_TIME_KEY, &hex16(encipher(wish.transport_key, wish.one_time_key)));
     m
@@ -95,7 +102,7 @@ pub fn suo(wish: &Wish) -> Vec<u8> {
 
 /// The VAR that closes a batch of these records; an empty batch gets a digest of zeros.
 pub fn var(wish: &Wish, records: &[Vec<u8>]) -> Vec<u8> {
-    let mut m = beginning(wish, b">>VAR", b"SMH", Kind::Var.length());
+    let mut m = beginning(wish, b">>VAR", b"SMH", Kind::Var);
     put(&mut m, AREA, &[wish.area]);
     put(&mut m, ONE_TIME_KEY, &hex16(encipher(wish.transport_key, wish.one_time_key)));
     let found = digest(wish.one_time_key, wish.method, records).unwrap_or(0);

@@ -1,4 +1,5 @@
 //! The message fields and the faults looked for in one message (1032, 1010, 1011).
+//! A message may be longer than its layout: its known fields are the layout's, the rest is passed over.
 use crate::calendar::{day, is_real_time};
 use crate::mac::is_field_character;
 
@@ -20,7 +21,7 @@ impl Kind {
         }
     }
 
-    /// The layout's length.
+    /// The layout's length: that of the known fields.
     pub fn length(self) -> usize {
         match self {
             Kind::Esi | Kind::Var => 161,
@@ -28,6 +29,9 @@ impl Kind {
         }
     }
 }
+
+/// The most characters that a message may have (document 001 section 4.5).
+pub const LONGEST: usize = 500;
 
 /// A field: its number, its name in document 001, where it starts and how long it is.
 #[derive(Clone, Copy, PartialEq, Eq, Debug)]
@@ -138,7 +142,7 @@ pub fn showing(code: u32, field: Field, value: &[u8]) -> Notice {
 pub enum Message {
     /// One record that makes a faulty message of its own.
     Alone(Notice),
-    /// All its characters, and those over in its last record.
+    /// Its characters up to the length it states, and those over in its last record.
     Whole { chars: Vec<u8>, over: Vec<u8> },
     /// Cut short by the file's end.
     Cut,
@@ -150,13 +154,18 @@ pub fn fault_of_first_record(kind: Kind, record: &[u8]) -> Option<Notice> {
         return Some(code(1032));
     }
     let length = LENGTH.of(record);
-    if !length.iter().all(u8::is_ascii_digit) {
+    if !is_digits(length) {
         return Some(showing(1010, LENGTH, length));
     }
-    if length != kind.length().to_string().as_bytes() {
+    if !(kind.length()..=LONGEST).contains(&stated_length(record)) {
         return Some(showing(1011, LENGTH, length));
     }
     None
+}
+
+/// The length that a message states, where that field is digits.
+pub fn stated_length(chars: &[u8]) -> usize {
+    number(LENGTH.of(chars)) as usize
 }
 
 /// What a first record that is no ESI gets: its first five characters, or fewer, stand where a
@@ -173,7 +182,7 @@ fn is_digits(text: &[u8]) -> bool {
     text.iter().all(u8::is_ascii_digit)
 }
 
-fn is_blank(text: &[u8]) -> bool {
+pub(crate) fn is_blank(text: &[u8]) -> bool {
     text.iter().all(|&b| b == b' ')
 }
 
@@ -193,12 +202,13 @@ pub(crate) fn has_good_form(kind: Kind, f: Field, text: &[u8]) -> bool {
     }
 }
 
-/// Of a field that has good form.
-pub(crate) fn has_good_value(kind: Kind, f: Field, text: &[u8]) -> bool {
+/// Of a field that has good form, in a message of this version that was collected. No version has a wrong
+/// value: it is taken, or too old (1012).
+pub(crate) fn has_good_value(kind: Kind, version: &[u8], f: Field, text: &[u8]) -> bool {
     let esi = kind == Kind::Esi;
     match f.number {
-        "2" => text == kind.length().to_string().as_bytes(),
-        "3" => text == b"110" || text == b"120",
+        // The two versions whose layouts these are; the length of an older one is not judged.
+        "2" if matches!(version, b"110" | b"120") => number(text) == kind.length() as u64,
         "4" | "14" => is_blank(text),
         "5" => text == b"0000",
         "6" => !is_blank(text),
@@ -228,7 +238,8 @@ pub fn fault(kind: Kind, message: &Message) -> Option<Notice> {
             return Some(showing(1010, f, f.of(chars)));
         }
     }
-    present().find(|f| !has_good_value(kind, *f, f.of(chars))).map(|f| showing(1011, f, f.of(chars)))
+    let version = VERSION.of(chars);
+    present().find(|f| !has_good_value(kind, version, *f, f.of(chars))).map(|f| showing(1011, f, f.of(chars)))
 }
 
 #[cfg(test)]

@@ -32,10 +32,17 @@ pub enum Fault {
     ValueAfter1026 = 13,
     SurplusShown = 14,
     ShortTagFilled = 15,
+    Collected501 = 16,
+    OneOverTakenOf120 = 17,
+    RestLookedAt = 18,
+    SurplusFromLayout = 19,
+    VersionBetweenTaken = 20,
+    RestCutJudged = 21,
+    SuoReadTo161 = 22,
 }
 
 impl Fault {
-    pub const ALL: [Fault; 15] = [
+    pub const ALL: [Fault; 22] = [
         Fault::OrderOfTwoChecks,
         Fault::QualifierLeftOut,
         Fault::StampForgottenAtDayChange,
@@ -51,6 +58,13 @@ impl Fault {
         Fault::ValueAfter1026,
         Fault::SurplusShown,
         Fault::ShortTagFilled,
+        Fault::Collected501,
+        Fault::OneOverTakenOf120,
+        Fault::RestLookedAt,
+        Fault::SurplusFromLayout,
+        Fault::VersionBetweenTaken,
+        Fault::RestCutJudged,
+        Fault::SuoReadTo161,
     ];
 
     pub fn numbered(n: u32) -> Fault {
@@ -58,9 +72,27 @@ impl Fault {
     }
 }
 
+/// A message as it came; its records are for counting only.
+#[derive(Clone, PartialEq, Eq, Debug)]
+pub struct Came {
+    pub kind: Kind,
+    pub message: Message,
+    pub records: Vec<Vec<u8>>,
+}
+
+/// What a reply was given to, for counting only: an ESI, or a frame's SUO and its VAR where one came.
+#[derive(Clone, PartialEq, Eq, Debug)]
+pub struct Judged {
+    pub floor: u32,
+    pub came: Vec<Came>,
+    pub reply: Vec<u8>,
+}
+
 #[derive(Clone, PartialEq, Eq, Debug)]
 pub struct Frame {
     pub suo: Message,
+    /// The SUO's own, for counting only.
+    pub suo_records: Vec<Vec<u8>>,
     /// Deciphered at SUO's end; none where the sender held no such transport key then.
     pub one_time_key: Option<u64>,
     pub records: Vec<Vec<u8>>,
@@ -69,8 +101,8 @@ pub struct Frame {
 #[derive(Clone, PartialEq, Eq, Debug)]
 enum Place {
     BeforeEsi,
-    /// A message that has not reached its length yet.
-    Gathering(Kind, Vec<u8>),
+    /// A message that has not reached the length it states yet: its records.
+    Gathering(Kind, Vec<Vec<u8>>),
     /// Outside a frame; whether 1023 has been told for these records.
     Outside(bool),
     InData,
@@ -88,6 +120,8 @@ pub struct File {
     pub fault: Fault,
     /// Where wanted, what each message judged fails, for counting only.
     pub watch: Option<Vec<Watched>>,
+    /// What the call under way has judged.
+    judged: Vec<Judged>,
     /// Bytes of the file taken so far.
     seen: u64,
     /// The record being read, without its end.
@@ -104,6 +138,8 @@ pub struct Answer {
     pub taken: usize,
     pub reply: Option<Vec<u8>>,
     pub finished: bool,
+    /// What the call judged, for counting only.
+    pub judged: Vec<Judged>,
 }
 
 impl Answer {
@@ -122,6 +158,7 @@ impl File {
             keys_made: 0,
             fault: Fault::None,
             watch: None,
+            judged: Vec::new(),
             seen: 0,
             partial: Vec::new(),
             place: Place::BeforeEsi,
@@ -174,9 +211,9 @@ impl File {
                 }
                 Some(self.no_esi(bank, &record))
             }
-            Place::Gathering(kind, mut chars) => {
-                chars.extend(record);
-                self.gather(bank, kind, chars)
+            Place::Gathering(kind, mut records) => {
+                records.push(record);
+                self.gather(bank, kind, records)
             }
             Place::Outside(told) => match starts {
                 Some(Kind::Esi) => Some(checks::bare(bank, self, ReplyKind::Esi, showing(1011, TAG, TAG.of(&record)))),
@@ -187,10 +224,10 @@ impl File {
                 }
             },
             Place::InData => match starts {
-                Some(Kind::Esi) => Some(checks::bare(bank, self, ReplyKind::Pte, code(1024))),
+                Some(Kind::Esi) => Some(self.without_var(bank)),
                 Some(Kind::Suo) => {
                     // The open frame is told now; the new SUO itself settles nothing yet.
-                    let told = checks::bare(bank, self, ReplyKind::Pte, code(1024));
+                    let told = self.without_var(bank);
                     let nothing = self.begin(bank, Kind::Suo, record);
                     assert!(nothing.is_none());
                     (self.fault != Fault::SecondSuoWithout1024).then_some(told)
@@ -207,34 +244,38 @@ impl File {
     }
 
     fn begin(&mut self, bank: &mut Bank, kind: Kind, record: Vec<u8>) -> Option<Vec<u8>> {
-        match fault_of_first_record(kind, &record) {
-            Some(notice) => self.complete(bank, kind, Message::Alone(notice)),
-            None => self.gather(bank, kind, record),
+        let one_more = |n: &Notice| self.fault == Fault::Collected501 && n.value.as_deref() == Some(b"501");
+        match fault_of_first_record(kind, &record).filter(|n| !one_more(n)) {
+            Some(notice) => self.complete(bank, Came { kind, message: Message::Alone(notice), records: vec![record] }),
+            None => self.gather(bank, kind, vec![record]),
         }
     }
 
-    fn gather(&mut self, bank: &mut Bank, kind: Kind, mut chars: Vec<u8>) -> Option<Vec<u8>> {
-        if chars.len() < kind.length() {
-            self.place = Place::Gathering(kind, chars);
+    fn gather(&mut self, bank: &mut Bank, kind: Kind, records: Vec<Vec<u8>>) -> Option<Vec<u8>> {
+        let mut chars = records.concat();
+        let length = stated_length(&chars);
+        if chars.len() < length {
+            self.place = Place::Gathering(kind, records);
             return None;
         }
-        let over = chars.split_off(kind.length());
-        self.complete(bank, kind, Message::Whole { chars, over })
+        let over = chars.split_off(length);
+        self.complete(bank, Came { kind, message: Message::Whole { chars, over }, records })
     }
 
-    fn complete(&mut self, bank: &mut Bank, kind: Kind, message: Message) -> Option<Vec<u8>> {
-        match kind {
+    fn complete(&mut self, bank: &mut Bank, came: Came) -> Option<Vec<u8>> {
+        match came.kind {
             Kind::Esi => {
                 if let Some(seen) = &mut self.watch {
-                    seen.push(together::watched_esi(bank, &message));
+                    seen.push(together::watched_esi(bank, &came.message));
                 }
-                let (reply, accepted) = checks::esi(bank, self, &message);
+                let (reply, accepted) = checks::esi(bank, self, &came.message);
                 self.place = if accepted { Place::Outside(false) } else { Place::Closed };
-                Some(reply)
+                Some(self.told(bank, vec![came], reply))
             }
             Kind::Suo => {
-                let one_time_key = checks::one_time_key(bank, self, &message);
-                self.frame = Some(Frame { suo: message, one_time_key, records: Vec::new() });
+                let one_time_key = checks::one_time_key(bank, self, &came.message);
+                let (suo, suo_records) = (came.message, came.records);
+                self.frame = Some(Frame { suo, suo_records, one_time_key, records: Vec::new() });
                 self.place = Place::InData;
                 None
             }
@@ -242,26 +283,56 @@ impl File {
                 let frame = self.frame.take().expect("a frame is open");
                 self.place = Place::Outside(false);
                 if self.watch.is_some() {
-                    let watched = together::watched_frame(bank, self, &frame, &message);
+                    let watched = together::watched_frame(bank, self, &frame, &came.message);
                     self.watch.iter_mut().for_each(|seen| seen.push(watched.clone()));
                 }
-                Some(checks::frame(bank, self, &frame, &message))
+                let reply = checks::frame(bank, self, &frame, &came.message);
+                Some(self.told(bank, vec![frame.suo_came(), came], reply))
             }
         }
+    }
+
+    /// Notes what a reply is given to.
+    fn told(&mut self, bank: &Bank, came: Vec<Came>, reply: Vec<u8>) -> Vec<u8> {
+        self.judged.push(Judged { floor: bank.floor, came, reply: reply.clone() });
+        reply
+    }
+
+    /// The reply to an open frame that gets no VAR.
+    fn without_var(&mut self, bank: &Bank) -> Vec<u8> {
+        let frame = self.frame.take().expect("a frame is open");
+        let reply = checks::bare(bank, self, ReplyKind::Pte, code(1024));
+        self.told(bank, vec![frame.suo_came()], reply)
     }
 
     /// What the end of the file itself settles, after its last record.
     fn file_end(&mut self, bank: &mut Bank) -> Option<Vec<u8>> {
         match std::mem::replace(&mut self.place, Place::Closed) {
-            Place::Gathering(Kind::Esi, _) => Some(checks::bare(bank, self, ReplyKind::Esi, code(1032))),
-            Place::Gathering(Kind::Suo, _) => Some(checks::bare(bank, self, ReplyKind::Pte, code(1032))),
-            Place::Gathering(Kind::Var, _) => {
-                let frame = self.frame.take().expect("a frame is open");
-                Some(checks::frame(bank, self, &frame, &Message::Cut))
+            Place::Gathering(kind, records) => {
+                let chars = records.concat();
+                if self.fault == Fault::RestCutJudged && chars.len() >= kind.length() {
+                    let message = Message::Whole { chars, over: Vec::new() };
+                    let reply = self.complete(bank, Came { kind, message, records });
+                    return reply.or_else(|| self.file_end(bank));
+                }
+                let came = Came { kind, message: Message::Cut, records };
+                let reply_kind = match kind {
+                    Kind::Esi => ReplyKind::Esi,
+                    Kind::Suo => ReplyKind::Pte,
+                    Kind::Var => return self.complete(bank, came),
+                };
+                let reply = checks::bare(bank, self, reply_kind, code(1032));
+                Some(self.told(bank, vec![came], reply))
             }
-            Place::InData => Some(checks::bare(bank, self, ReplyKind::Pte, code(1024))),
+            Place::InData => Some(self.without_var(bank)),
             Place::BeforeEsi | Place::Outside(_) | Place::Closed => None,
         }
+    }
+}
+
+impl Frame {
+    fn suo_came(&self) -> Came {
+        Came { kind: Kind::Suo, message: self.suo.clone(), records: self.suo_records.clone() }
     }
 }
 
@@ -279,7 +350,7 @@ pub fn read(bank: &mut Bank, file: &mut File, input: &[u8], room: usize) -> Answ
             // The byte past the limit is taken but never looked at.
             let reply = checks::bare(bank, file, file.reply_kind(), code(1034));
             file.place = Place::Closed;
-            return Answer { taken: taken + 1, reply: Some(reply), finished: true, refusal: 0 };
+            return Answer { taken: taken + 1, reply: Some(reply), finished: true, ..Answer::default() };
         }
         let allowed = (input.len() - taken).min((LIMIT - file.seen).min(usize::MAX as u64) as usize);
         let rest = &input[taken..taken + allowed];
@@ -298,7 +369,8 @@ pub fn read(bank: &mut Bank, file: &mut File, input: &[u8], room: usize) -> Answ
         }
         let reply = file.record(bank, record);
         if reply.is_some() {
-            return Answer { taken, reply, finished: file.place == Place::Closed, refusal: 0 };
+            let (finished, judged) = (file.place == Place::Closed, std::mem::take(&mut file.judged));
+            return Answer { refusal: 0, taken, reply, finished, judged };
         }
     }
     if file.fault == Fault::StrippedAtReadsEnd && file.place == Place::InData {
@@ -307,7 +379,7 @@ pub fn read(bank: &mut Bank, file: &mut File, input: &[u8], room: usize) -> Answ
             file.partial.pop();
         }
     }
-    Answer { taken, reply: None, finished: false, refusal: 0 }
+    Answer { taken, ..Answer::default() }
 }
 
 /// The end of the file; called again while it says that more is due.
@@ -331,9 +403,10 @@ pub fn end(bank: &mut Bank, file: &mut File, room: usize) -> Answer {
         due.extend(file.file_end(bank));
         file.due = Some(due);
     }
+    let judged = std::mem::take(&mut file.judged);
     let due = file.due.as_mut().expect("set above");
     let reply = due.pop_front();
-    Answer { refusal: 0, taken: 0, reply, finished: due.is_empty() }
+    Answer { refusal: 0, taken: 0, reply, finished: due.is_empty(), judged }
 }
 
 #[cfg(test)]

@@ -736,7 +736,7 @@ impl Maker {
 
     fn write_first(&mut self, p: &mut Pending) {
         let mut out = Vec::new();
-        match self.d.weighted(&[3, 3, 88, 3, 3]) {
+        match self.d.weighted(&[3, 3, 86, 3, 3, 2]) {
             0 if self.d.chance(60) => {
                 // An empty file, or one with nothing before its frames.
                 p.items_left = 0;
@@ -752,6 +752,10 @@ impl Maker {
                 for record in self.faulty(Kind::Esi, &customer::esi(&wish)) {
                     self.line(p, &mut out, &record);
                 }
+            }
+            5 => {
+                let wish = self.longer_wish(p.customer);
+                out = self.cut_by_the_end(p, customer::esi(&wish));
             }
             _ => {
                 let mut wish = self.wish(p.customer);
@@ -775,6 +779,33 @@ impl Maker {
             }
         }
         p.unread.extend(out);
+    }
+
+    /// What a customer on a newer release would write, each message longer than its layout.
+    fn longer_wish(&mut self, customer: Option<usize>) -> Wish {
+        let mut wish = self.wish(customer);
+        wish.version = if self.d.chance(80) { newer_version(&mut self.d) } else { 120 };
+        for (kind, rest) in [(Kind::Var, &mut wish.rest), (Kind::Suo, &mut wish.suo_rest)] {
+            while rest.is_empty() {
+                *rest = some_rest(&mut self.d, kind);
+            }
+        }
+        wish
+    }
+
+    /// The beginning of a longer message, with which the file is over.
+    fn cut_by_the_end(&mut self, p: &mut Pending, message: Vec<u8>) -> Vec<u8> {
+        p.items_left = 0;
+        let layout = Kind::started_by(&message).expect("a message").length();
+        let there = cut_at(&mut self.d, layout, message.len());
+        let first = (11 + self.d.below(message.len())).min(there);
+        let records = if self.d.chance(50) { vec![first, there] } else { vec![there] };
+        let (mut out, mut from) = (Vec::new(), 0);
+        for to in records {
+            self.line(p, &mut out, &message[from..to]);
+            from = to;
+        }
+        out
     }
 
     /// The last bytes: perhaps without the last LF, or cut anywhere.
@@ -806,7 +837,7 @@ impl Maker {
     /// A frame, records outside, or something that should not be there.
     fn write_item(&mut self, p: &mut Pending) {
         let mut out = Vec::new();
-        let weights = if p.tour { [1, 0, 0, 0, 0, 0] } else { [76, 8, 4, 5, 4, 3] };
+        let weights = if p.tour { [1, 0, 0, 0, 0, 0, 0] } else { [73, 8, 4, 5, 4, 3, 3] };
         match self.d.weighted(&weights) {
             0 => return self.write_frame(p),
             1 => {
@@ -837,6 +868,20 @@ impl Maker {
                     message[5..].iter_mut().for_each(|b| *b = one_of(&mut self.d, odd));
                 }
                 self.line(p, &mut out, &message);
+            }
+            5 => {
+                // A SUO, or a frame, that the file's end cuts.
+                let wish = self.longer_wish(p.customer);
+                let suo = customer::suo(&wish);
+                if self.d.chance(40) {
+                    out = self.cut_by_the_end(p, suo);
+                } else {
+                    let data = vec![self.data_record()];
+                    self.line(p, &mut out, &suo);
+                    self.line(p, &mut out, &data[0]);
+                    let var = self.cut_by_the_end(p, customer::var(&wish, &data));
+                    out.extend(var);
+                }
             }
             _ => {
                 let wish = self.wish(p.customer);
@@ -903,7 +948,7 @@ impl Maker {
             wish.transport = c.transport.generation;
             wish.transport_key = c.transport.key;
             wish.date = self.today();
-            wish.version = 120;
+            wish.version = wish.version.max(120);
             wish.request = if c.working.in_changeover(self.today()) { b'2' } else { b'1' };
         }
         let harms = if damaged { self.d.pick(&[0, 1, 1, 1, 2, 3]) } else { 0 };
@@ -938,9 +983,13 @@ impl Maker {
         }
         let odd = if damaged { 20 } else { 6 };
         let mut out = Vec::new();
-        let shape = if p.tour { 0 } else { self.d.weighted(&[86, 8, 2, 2, 2]) };
+        let shape = if p.tour { 0 } else { self.d.weighted(&[84, 8, 2, 2, 2, 2]) };
+        if shape == 5 {
+            // A SUO that says more than it has takes records of its data, its VAR or the next frame's.
+            put(&mut suo, LENGTH, self.d.between(129, LONGEST as i64).to_string().as_bytes());
+        }
         // A fault of the SUO's, of the VAR's, or of both, that the reply shows.
-        let which = if p.tour { 0 } else { self.d.weighted(&[90, 4, 3, 3]) };
+        let which = if p.tour { 0 } else { self.d.weighted(&[87, 4, 6, 3]) };
         let (bad_suo, bad_var) = [(false, false), (true, false), (false, true), (true, true)][which];
         if shape != 2 {
             let laid = if bad_suo { self.faulty(Kind::Suo, &suo) } else { self.lay(&suo, odd) };
@@ -1058,6 +1107,8 @@ impl Maker {
                     method: Method::Skh,
                     request: b'0',
                     one_time_key: 1,
+                    rest: Vec::new(),
+                    suo_rest: Vec::new(),
                 }
             }
         };
@@ -1066,7 +1117,14 @@ impl Maker {
             w.date = shifted(w.date, -d.between(1, 6));
         }
         w.request = d.pick(b"000011122");
-        w.version = if d.chance(12) { 110 } else { 120 };
+        match d.weighted(&[65, 10, 25]) {
+            0 => w.version = 120,
+            1 => w.version = 110,
+            _ => {
+                w.version = newer_version(d);
+                lengthen(d, &mut w, 75);
+            }
+        }
         w.area = d.pick(b"SA");
         w.method = d.pick(&[Method::Skh, Method::Skh, Method::Ske]);
         w.one_time_key = key(d);
@@ -1093,7 +1151,7 @@ impl Maker {
         let today = self.today();
         let c = customer.and_then(|at| self.bank().and_then(|b| b.customers.get(at).cloned()));
         let d = &mut self.d;
-        match d.below(if batch { 15 } else { 12 }) {
+        match d.below(if batch { 17 } else { 14 }) {
             0 => w.date = shifted(today, -d.between(4, 11)),
             1 => w.date = shifted(today, d.between(1, 3)),
             2 => {
@@ -1140,13 +1198,30 @@ impl Maker {
                 1 => w.sender = [b' '; 25],
                 _ => w.sender[17..].copy_from_slice(&padded::<8>(d.pick(&QUALIFIERS))),
             },
-            9 => w.version = 110,
-            10 => w.working_key = key(d),
-            11 => {
+            9..=11 => match d.below(7) {
+                0 => w.version = 110,
+                1..=3 => {
+                    // Too old, of the layout's length or another.
+                    let any = d.below(110) as u32;
+                    w.version = d.pick(&[100, 109, 111, 119, any]);
+                    (w.rest, w.suo_rest) = (Vec::new(), Vec::new());
+                    lengthen(d, w, 40);
+                }
+                _ => {
+                    // A length that the version has not got; that of the VAR shows where the SUO has its own.
+                    w.version = d.pick(&[110, 120]);
+                    lengthen(d, w, 75);
+                    if d.chance(50) {
+                        w.suo_rest.clear();
+                    }
+                }
+            },
+            12 => w.working_key = key(d),
+            13 => {
                 w.transport = d.below(10) as u32;
                 w.working = d.below(10) as u32;
             }
-            12 | 13 => {
+            14 | 15 => {
                 let used: Vec<u64> = c.iter().flat_map(|c| c.stamps.iter().filter_map(|s| s.one_time_key)).collect();
                 if !used.is_empty() {
                     w.one_time_key = d.pick(&used);
@@ -1184,7 +1259,7 @@ impl Maker {
             4..=6 => {
                 let f = d.pick(&present[2..]);
                 let other: &[u8] = match f.number {
-                    "3" => d.pick(&[b"100", b"130", b"119", b"000"]),
+                    "3" => d.pick(&[b"100", b"109", b"111", b"119", b"121", b"130", b"999", b"000"]),
                     "4" => d.pick(&[b"K", b"E", b"0"]),
                     "5" => d.pick(&[b"1001", b"0001"]),
                     "6" => b"                ",
@@ -1231,8 +1306,9 @@ impl Maker {
         let digit = |b: u8| if b == b'9' { b'0' } else { b + 1 };
         match f.number {
             "3" => {
-                let other: &[u8] = if VERSION.of(var) == b"120" { b"110" } else { b"120" };
-                put(var, VERSION, other);
+                let others: [&[u8]; 7] = [b"110", b"120", b"100", b"119", b"121", b"130", b"999"];
+                let other = d.pick(&others);
+                put(var, VERSION, if VERSION.of(var) == other { b"122" } else { other });
             }
             "8" | "9" => {
                 let at = f.at + d.below(25);
@@ -1260,18 +1336,28 @@ impl Maker {
     fn faulty(&mut self, kind: Kind, message: &[u8]) -> Vec<Vec<u8>> {
         let d = &mut self.d;
         let mut m = message.to_vec();
+        if m.len() == kind.length() && d.chance(15) {
+            // One of 110 or 120 then has a wrong length as well.
+            m.extend(some_rest(d, kind));
+            let length = m.len();
+            put(&mut m, LENGTH, length.to_string().as_bytes());
+        }
         let code = d.pick(&[1010, 1011]);
         match d.weighted(&[75, 15, 10]) {
             0 => {
                 let present: Vec<Field> = FIELDS.into_iter().filter(|f| f.end() <= kind.length()).collect();
                 let f = d.pick(&present[2..]);
-                let text = wrong(d, kind, f, code).or_else(|| wrong(d, kind, f, 2021 - code));
+                let version = VERSION.of(message);
+                let text = wrong(d, kind, version, f, code).or_else(|| wrong(d, kind, version, f, 2021 - code));
                 put(&mut m, f, &text.expect("one of the two"));
                 across(d, &m, f)
             }
             1 => {
-                let text = wrong(d, kind, LENGTH, code).expect("it has both rules");
+                let text = wrong(d, kind, VERSION.of(message), LENGTH, code).expect("it has both rules");
                 put(&mut m, LENGTH, &text);
+                if d.chance(35) {
+                    m[VERSION.at + d.below(3)] = d.pick(b" xA-");
+                }
                 let n = d.pick(&[11, 12, 80, m.len()]);
                 d.pick(&[vec![m[..n].to_vec()], m.chunks(n).map(|c| c.to_vec()).collect()])
             }
@@ -1288,6 +1374,10 @@ impl Maker {
     /// Lays a message out as records; oddly with so many chances in a hundred.
     fn lay(&mut self, message: &[u8], odd: usize) -> Vec<Vec<u8>> {
         let d = &mut self.d;
+        let layout = Kind::started_by(message).expect("a message").length();
+        if message.len() > layout && d.chance(80) {
+            return lay_longer(d, message, layout, odd);
+        }
         if !d.chance(odd + 15) {
             return vec![message.to_vec()];
         }
@@ -1325,7 +1415,7 @@ impl Maker {
             }
             2 => {
                 let mut m = message.to_vec();
-                put(&mut m, LENGTH, d.pick(&[b"160", b"162", b"128", b"161", b"237", b"000", b"317"]));
+                put(&mut m, LENGTH, format!("{:03}", d.pick(&LENGTHS)).as_bytes());
                 d.pick(&[vec![m.clone()], m.chunks(80).map(|c| c.to_vec()).collect()])
             }
             3 => {
@@ -1377,6 +1467,130 @@ impl Bank {
     }
 }
 
+/// Lengths at the bounds of the three layouts and of what is collected.
+const LENGTHS: [usize; 13] = [0, 127, 128, 129, 160, 161, 162, 163, 200, 499, 500, 501, 999];
+
+/// A version above 120, often at a bound.
+fn newer_version(d: &mut Dice) -> u32 {
+    match d.below(10) {
+        0..=2 => 121,
+        3 | 4 => 130,
+        5 | 6 => 999,
+        _ => d.between(121, 999) as u32,
+    }
+}
+
+/// Gives a wish's messages a rest each, with so many chances in a hundred.
+fn lengthen(d: &mut Dice, w: &mut Wish, percent: usize) {
+    if d.chance(percent) {
+        w.rest = some_rest(d, Kind::Var);
+    }
+    if d.chance(percent) {
+        w.suo_rest = some_rest(d, Kind::Suo);
+    }
+    if d.chance(5) {
+        let both = w.rest.len().min(w.suo_rest.len());
+        w.rest.truncate(both);
+        w.suo_rest.truncate(both);
+    }
+}
+
+/// What may follow the known fields, up to 500 characters in all, mostly up to a bound: any bytes but LF.
+fn some_rest(d: &mut Dice, kind: Kind) -> Vec<u8> {
+    let layout = kind.length();
+    let bounds: Vec<usize> = LENGTHS.into_iter().filter(|n| (layout..=LONGEST).contains(n)).collect();
+    let length = match d.below(10) {
+        0..=2 => d.between(layout as i64, LONGEST as i64) as usize,
+        3 | 4 => layout + 1,
+        _ => d.pick(&bounds),
+    };
+    let letters =
+        d.pick(&[b"" as &[u8], b"", b" ", b"NEW 019", b"new \r\0\x7F\xC4", b"0123456789ABCDEF", b">ESUOVARI161 "]);
+    (0..length - layout).map(|_| one_of(d, letters)).collect()
+}
+
+/// Cuts at these places.
+fn split(message: &[u8], places: &[usize]) -> Vec<Vec<u8>> {
+    let ends = places.iter().copied().chain([message.len()]);
+    let starts = [0].into_iter().chain(places.iter().copied());
+    starts.zip(ends).map(|(a, b)| message[a..b].to_vec()).collect()
+}
+
+/// Records of one length, the last filled with blanks.
+fn filled(message: &[u8], length: usize) -> Vec<Vec<u8>> {
+    let mut all: Vec<Vec<u8>> = message.chunks(length).map(|c| c.to_vec()).collect();
+    all.iter_mut().for_each(|r| r.resize(length, b' '));
+    all
+}
+
+/// Lays out a message that is longer than its layout; oddly with so many chances in a hundred.
+fn lay_longer(d: &mut Dice, message: &[u8], layout: usize, odd: usize) -> Vec<Vec<u8>> {
+    let (mut m, n) = (message.to_vec(), message.len());
+    let in_rest = |d: &mut Dice| layout + d.below(n - layout);
+    if d.chance(odd + 5) {
+        return match d.below(5) {
+            0 | 1 => {
+                m.extend(vec![b' '; d.pick(&[0, 0, 1, 2, 30, 70])]);
+                let letters = d.pick(&[b"" as &[u8], b"X#.\r\t\0"]);
+                m.push(one_of(d, letters));
+                m.extend(vec![b' '; d.below(3)]);
+                vec![m]
+            }
+            2 => vec![m, vec![b' '; d.below(40)]],
+            3 => vec![m[..in_rest(d)].to_vec()],
+            // It says another length than it has.
+            _ => {
+                let length = d.pick(&LENGTHS);
+                put(&mut m, LENGTH, format!("{length:03}").as_bytes());
+                vec![m]
+            }
+        };
+    }
+    match d.below(9) {
+        0 => vec![m],
+        1 => split(&m, &[layout]),
+        2 => split(&m, &[n - 1]),
+        3 => {
+            let at = in_rest(d);
+            split(&m, &[at])
+        }
+        4 => {
+            // A record of the rest that begins like a message of its own.
+            let at = in_rest(d).min(n - 5).max(layout);
+            let tag: &[u8] = d.pick(&[b">>ESI" as &[u8], b">>SUO", b">>VAR"]);
+            let room = tag.len().min(n - at);
+            m[at..at + room].copy_from_slice(&tag[..room]);
+            split(&m, &[at])
+        }
+        5 => {
+            // Within the known fields, and twice within the rest, perhaps at the same place.
+            let (one, two) = (in_rest(d), in_rest(d));
+            let two = if d.chance(50) { one } else { two };
+            split(&m, &[11 + d.below(layout - 11), one.min(two), one.max(two)])
+        }
+        6 => pieces(d, &m, 11),
+        7 => {
+            let length = d.pick(&[80, 90, 161, 300]);
+            filled(&m, length)
+        }
+        _ => {
+            m.extend(vec![b' '; 1 + d.below(90)]);
+            vec![m]
+        }
+    }
+}
+
+/// A longer message that the file's end cuts: how many of its characters are there.
+fn cut_at(d: &mut Dice, layout: usize, length: usize) -> usize {
+    match d.below(6) {
+        0 => layout - 1,
+        1 => layout,
+        2 => length - 1,
+        3 => 11 + d.below(layout - 11),
+        _ => layout + d.below(length - layout),
+    }
+}
+
 /// Moves a stamp's date into a changeover, mostly.
 fn within(d: &mut Dice, w: &mut Wish, prev: &Previous, today: u32) {
     if d.chance(80) && day(w.date) < day(prev.first) {
@@ -1415,11 +1629,15 @@ fn one_of(d: &mut Dice, letters: &[u8]) -> u8 {
     }
 }
 
-/// Contents of a field that are wrong in form (1010), or well formed and wrong in value (1011); none
-/// where the field has no such rule.
-fn wrong(d: &mut Dice, kind: Kind, f: Field, code: u32) -> Option<Vec<u8>> {
+/// Contents of a field that are wrong in form (1010), or well formed and wrong in value (1011) in a message of
+/// this version; none where the field has no such rule.
+fn wrong(d: &mut Dice, kind: Kind, version: &[u8], f: Field, code: u32) -> Option<Vec<u8>> {
     if f == SOFTWARE && code == 1011 {
         return Some(vec![b' '; f.len]);
+    }
+    // No version has a wrong value.
+    if f == VERSION && code == 1011 {
+        return None;
     }
     let sets = [&ODD[..], &EVEN[..]].concat();
     // So many that a rule there is has been met: the rarest is met by one in ten.
@@ -1427,11 +1645,17 @@ fn wrong(d: &mut Dice, kind: Kind, f: Field, code: u32) -> Option<Vec<u8>> {
         let letters = d.pick(&sets);
         let text: Vec<u8> = (0..f.len).map(|_| one_of(d, letters)).collect();
         let form = has_good_form(kind, f, &text);
-        if (code == 1010 && !form) || (code == 1011 && form && !has_good_value(kind, f, &text)) {
+        if (code == 1010 && !form) || (code == 1011 && form && !is_good(kind, version, f, &text)) {
             return Some(text);
         }
     }
     None
+}
+
+/// Whether a field of good form has a good value; a length outside what is collected is a fault of its first record.
+fn is_good(kind: Kind, version: &[u8], f: Field, text: &[u8]) -> bool {
+    let outside = f == LENGTH && !(kind.length() as u64..=LONGEST as u64).contains(&number(text));
+    !outside && has_good_value(kind, version, f, text)
 }
 
 /// A message in one record, or cut inside this field once or twice, perhaps with an empty record there.
@@ -1477,15 +1701,17 @@ mod tests {
     #[test]
     fn wrong_contents_are_wrong() {
         let d = &mut Dice(1);
-        for kind in [Kind::Esi, Kind::Suo, Kind::Var] {
+        let each = [Kind::Esi, Kind::Suo, Kind::Var].map(|kind| [(kind, b"120"), (kind, b"130")]);
+        for (kind, version) in each.into_iter().flatten() {
             for f in present(kind) {
                 let [form, value] =
-                    [1010, 1011].map(|code| (0..50).map(|_| wrong(d, kind, f, code)).collect::<Vec<_>>());
+                    [1010, 1011].map(|code| (0..50).map(|_| wrong(d, kind, version, f, code)).collect::<Vec<_>>());
                 assert!(form.iter().flatten().all(|text| text.len() == f.len && !has_good_form(kind, f, text)));
-                assert!(value
-                    .iter()
-                    .flatten()
-                    .all(|text| has_good_form(kind, f, text) && !has_good_value(kind, f, text)));
+                for text in value.iter().flatten() {
+                    let outside = f == LENGTH && !(kind.length() as u64..=500).contains(&number(text));
+                    assert!(has_good_form(kind, f, text) && (outside || !has_good_value(kind, version, f, text)));
+                    assert!(f != LENGTH || version == b"120" || outside);
+                }
                 assert_eq!(form.iter().all(|t| t.is_some()), f.number != "18", "{}", f.number);
                 assert!(form.iter().chain(&value).any(|t| t.is_some()), "{}", f.number);
             }
@@ -1497,7 +1723,8 @@ mod tests {
     fn wrong_contents_have_the_bytes_at_the_bounds() {
         let d = &mut Dice(2);
         for f in present(Kind::Esi).into_iter().filter(|f| f.number != "18") {
-            let drawn: Vec<u8> = (0..500).flat_map(|_| wrong(d, Kind::Esi, f, 1010).expect("it has a form")).collect();
+            let drawn: Vec<u8> =
+                (0..500).flat_map(|_| wrong(d, Kind::Esi, b"120", f, 1010).expect("it has a form")).collect();
             assert!(
                 b"\x1F\x20\x7E\x7F\xC4".iter().all(|b| f.len == 1 && *b == b' ' || drawn.contains(b)),
                 "{}",
@@ -1524,6 +1751,49 @@ mod tests {
             for n in [2, 3] {
                 assert_eq!(laid.iter().any(|r| r.len() == n), f.end() > 12 && f.len > 1, "{}", f.number);
             }
+        }
+    }
+
+    /// A rest reaches each bound that lies from the layout's length to 500, and has no line end in it.
+    #[test]
+    fn rests_reach_the_bounds() {
+        let d = &mut Dice(6);
+        for kind in [Kind::Suo, Kind::Var] {
+            let rests: Vec<Vec<u8>> = (0..2000).map(|_| some_rest(d, kind)).collect();
+            assert!(rests.iter().all(|r| kind.length() + r.len() <= LONGEST && !r.contains(&b'\n')));
+            let reached = |n: usize| rests.iter().any(|r| kind.length() + r.len() == n);
+            for n in LENGTHS {
+                assert_eq!(reached(n), (kind.length()..=LONGEST).contains(&n), "{n}");
+            }
+        }
+    }
+
+    /// However a longer message is laid out, its known fields stay but for the length; its records end at each of the
+    /// places that matter, and now and then it has too many characters or too few.
+    #[test]
+    fn longer_messages_are_laid_out() {
+        let d = &mut Dice(7);
+        for (layout, length) in [(161, 162), (161, 500), (128, 129), (128, 161), (128, 500)] {
+            let message: Vec<u8> = (0..length).map(|k| b'A' + (k % 26) as u8).collect();
+            let laid: Vec<Vec<Vec<u8>>> = (0..2000).map(|_| lay_longer(d, &message, layout, 10)).collect();
+            for records in &laid {
+                let chars = records.concat();
+                assert!(records[0].len() >= 11 && chars.len() >= layout);
+                assert!(chars[..5] == message[..5] && chars[8..layout] == message[8..layout]);
+            }
+            let some = |holds: &dyn Fn(&Vec<Vec<u8>>) -> bool| laid.iter().any(holds);
+            for at in [layout, length - 1] {
+                assert!(some(&|r| r.len() > 1 && r[0].len() == at), "{at} of {length}");
+            }
+            assert!(some(&|r| r.concat() == message && r.len() == 1));
+            assert!(some(&|r| r.concat().len() > length && r.concat()[length..].iter().all(|b| *b == b' ')));
+            assert!(some(&|r| r.concat()[length.min(r.concat().len())..].iter().any(|b| *b != b' ')));
+            assert!(some(&|r| r.concat().len() < length));
+            assert!(some(&|r| r.concat()[LENGTH.at..LENGTH.end()] == *b"501"));
+            let cut: Vec<usize> = (0..500).map(|_| cut_at(d, layout, length)).collect();
+            assert!(
+                cut.iter().all(|n| (11..length).contains(n)) && [layout - 1, layout].iter().all(|n| cut.contains(n))
+            );
         }
     }
 

@@ -1,5 +1,5 @@
-//! A second, independent model of the receiving front end: document 01 worked out on whole
-//! records held in memory. It shares no code with the front end it is compared with.
+//! A second, independent model of the receiving front end: document 01, with the requests built so
+//! far, worked out on whole records held in memory. It shares no code with the front end it is compared with.
 #![forbid(unsafe_code)]
 
 pub mod bank;
@@ -14,6 +14,7 @@ pub mod file;
 pub mod generate;
 pub mod keys;
 pub mod mac;
+pub mod newer;
 pub mod reply;
 pub mod size;
 pub mod together;

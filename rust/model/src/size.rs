@@ -42,6 +42,11 @@ pub fn compare_size(front: &mut dyn Front) -> Result<Vec<String>, Difference> {
     both.step(&read(0, &last))?;
 
     let batch = |number| customer::batch(&Wish { time: 2, number, ..wish.clone() }, &[b"DATA".to_vec()]);
+    // A SUO and a VAR of 200 characters each.
+    let newer = |number| {
+        let (version, rest, suo_rest) = (130, vec![b'R'; 39], vec![b'R'; 72]);
+        customer::batch(&Wish { time: 2, number, version, rest, suo_rest, ..wish.clone() }, &[b"DATA".to_vec()])
+    };
     let filled = |tail: Vec<u8>, from_end: usize| {
         // Records outside, then the tail so that `from_end` of its bytes lie past the limit.
         let mut all = vec![b'Z'; LEFT + from_end - tail.len()];
@@ -61,6 +66,10 @@ pub fn compare_size(front: &mut dyn Front) -> Result<Vec<String>, Difference> {
         filled([&batch(7)[..134], &batch(7)[..]].concat(), 160),
         filled(b"END".to_vec(), 0),
         filled(b"END".to_vec(), 3),
+        filled(newer(8), 1),
+        filled(newer(9), 30),
+        filled(newer(10)[..newer(10).len() - 30].to_vec(), 0),
+        filled(newer(11)[..180].to_vec(), 0),
     ];
     let mut codes = Vec::new();
     for (i, tail) in tails.iter().enumerate() {

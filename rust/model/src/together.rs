@@ -2,6 +2,7 @@
 //! of each two of them. A check that cannot be made (of an unknown sender, say) is left out.
 use crate::bank::{Bank, STAMPS};
 use crate::calendar::day;
+use crate::checks::is_too_old;
 use crate::fields::*;
 use crate::file::{File, Frame};
 use crate::keys::has_odd_parity;
@@ -42,7 +43,7 @@ fn digits(f: Field, chars: &[u8]) -> Option<u64> {
 
 /// The checks both ESI and frames share, by what can be read of the message.
 fn shared(bank: &Bank, chars: &[u8], one_time_key: Option<Option<u64>>, out: &mut Vec<&'static str>) {
-    if digits(VERSION, chars).is_some_and(|v| v < bank.floor as u64) {
+    if digits(VERSION, chars).is_some_and(|v| is_too_old(v, bank.floor)) {
         out.push("1012");
     }
     if *RECEIVER.of(chars) != bank.bank {
@@ -94,7 +95,8 @@ fn form_and_value(kind: Kind, message: &Message, names: [&'static str; 3], out: 
                         (Some(Notice { code: 1010, field: Some(f), .. }), Message::Whole { chars, .. }) => {
                             let good: &[u8] = match f.number {
                                 "12.1" => b"941015",
-                                "3" => b"120",
+                                // Of this version the length is not judged.
+                                "3" => b"130",
                                 _ => b"0000000000000000000000000",
                             };
                             chars[f.at..f.end()].copy_from_slice(&good[..f.len]);

@@ -3,7 +3,7 @@
 use model::case::{compare, shrink, Case, Model, ModelFront};
 use model::count::Counts;
 use model::file::Fault;
-use model::generate;
+use model::{generate, newer};
 
 #[test]
 fn the_model_agrees_with_itself() {
@@ -37,6 +37,22 @@ fn every_field_of_every_message_is_told_of() {
         }
     }
     assert!(counts.untold().is_empty(), "{:?}", counts.untold());
+}
+
+/// Each notice, field and refusal comes up, and each sentence of R-2 with both sides of its bounds.
+#[test]
+fn nothing_never_comes_up() {
+    let mut counts = Counts::default();
+    for case in (1..15_000).map(generate::case) {
+        let mut model = Model::new(&case.start);
+        for step in &case.steps {
+            let answer = model.step(step);
+            counts.see(step, &answer);
+        }
+    }
+    assert!(counts.missing().is_empty(), "{:?}", counts.missing());
+    let all = newer::all();
+    assert!(counts.newer.keys().all(|shown| all.contains(shown)), "{:?}", counts.newer);
 }
 
 #[test]

@@ -1,6 +1,5 @@
 -- The checks are made in their order.
 use mathlib.Core.Path.{ap, ap₂, _∙_}
-use lib.Dec.{ltb}
 use Rattle.ground.specs.Choice.{fails}
 use Rattle.ground.specs.Lists.{same}
 use Rattle.ground.proofs.Bools.{turned}
@@ -8,7 +7,7 @@ use Rattle.message.specs.Fields.{receiverOf}
 use Rattle.customer.specs.declared.Customer.{Customer}
 use Rattle.customer.specs.declared.Settings.{Settings}
 use Rattle.table.specs.Table.{isUnknown, placeOf}
-use Rattle.checks.specs.Checks.{partyChecks}
+use Rattle.checks.specs.Checks.{tooOldVersion, partyChecks}
 use Rattle.checks.proofs.Order.{one, next}
 use borrow.Author.Needs.{needs}
 use Rattle.checks.proofs.party_faults.Statement.{statement}
@@ -23,7 +22,8 @@ returns c =
     let at-fault-if2 = at-is-no-place .before in
     let at-is-elsewhere = at-fault-if2 .before in
     let at-fault-if = at-is-elsewhere .before in
-    let at-version = at-fault-if .before .before in
+    let at-too-old = at-fault-if .before in
+    let at-version = at-too-old .before in
     let at-customer-of = at-version .before in
     let at-find = at-customer-of .before in
     let at-sender = at-find .before in
@@ -34,7 +34,8 @@ returns c =
     let m = at-args .args .m in
     let version = at-version .version .ensures in
     let customer = at-customer-of .customer-of .ensures in
-    next _ _ _ _ (c .or-else3 .ensures) (at-fault-if .fault-if .ensures) (ap₂ ltb version (ap (λ (x : Settings). x .floor) s))
+    next _ _ _ _ (c .or-else3 .ensures) (at-fault-if .fault-if .ensures)
+    (at-too-old .too-old-version .ensures ∙ ap₂ tooOldVersion (ap (λ (x : Settings). x .floor) s) version)
     (next _ _ _ _ (c .before .or-else2 .ensures) (at-fault-if2 .fault-if2 .ensures)
     (at-is-elsewhere .is-elsewhere .ensures ∙ ap (λ (x : Settings). fails (same (receiverOf m) (x .bank))) s)
     (next _ _ _ _ (c .before .before .or-else .ensures) (at-fault-if3 .fault-if3 .ensures)
@@ -45,6 +46,7 @@ pub party-faults-spec : {M : Type 1} → statement M
 party-faults-spec =
     tie.close
     (tie.spec
+    (λ c κs. search needs)
     (λ c κs. search needs)
     (λ c κs. search needs)
     (λ c κs. search needs)

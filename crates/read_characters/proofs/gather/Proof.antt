@@ -1,54 +1,46 @@
--- The record so far with the characters that are left is the record with all of them.
-use mathlib.Core.Path.{_≡_, refl, sym, _∙_}
-use mathlib.Core.Logic.{⊎-elim}
-use Prim.Native.Nat.{_≤_, _-_}
+-- Where the room ends the characters are cut in two: those before the cut are kept, and those past it find no room.
+use mathlib.Core.Path.{sym}
+use Prim.Native.Nat.{_-_}
 use native.Mathlib.Omega.{arith}
 use borrow.Author.Needs.{needs}
-use lib.ListN.{length, drop}
-use Rattle.session.specs.Events.{gatheredAll}
-use Rattle.read_characters.proofs.Gathering.{with-room, past-blank, past-other, gathered-drop, gathered-done}
+use lib.Seq.{length-take-le}
+use Rattle.read_characters.proofs.Gathering.{gathered-cut, filled}
 use Rattle.read_characters.proofs.gather.Statement.{statement}
 use Rattle.read_characters.proofs.gather.Tie as tie
 
-abbrev Inv-loop : tie.InvT-loop
-Inv-loop bytes count₀ blank₀ text₀ i₀ count blank text i =
-    (i ≤ length bytes)
-    × (gatheredAll (record { count = count; blank = blank; text = text }) (drop i bytes)
-    ≡ gatheredAll (record { count = count₀; blank = blank₀; text = text₀ }) bytes)
+slice-aggregate-keep : tie.Need-slice-aggregate-keep
+slice-aggregate-keep c = sym (length-take-le _ (c .before .before .before .before .before .before .args .bytes .now) (omega arith))
 
-abbrev μ-loop : tie.MeasureT-loop
-μ-loop bytes count₀ blank₀ text₀ i₀ count blank text i = length bytes - i
+keep-requires-2 : tie.Need-keep-requires-2
+keep-requires-2 c κs =
+    let a = c .before .before .before .before .before .before .args in
+    omega (arith, length-take-le (161 - a .g .count) (a .bytes .now) (omega arith))
 
-loop-holds : tie.Need-loop-holds Inv-loop μ-loop
-loop-holds c = (search needs, refl)
+abbrev at-start : tie.After-keep2 → tie.Start
+at-start c = c .before .before .before .before .before .before .before
 
-loop-again : tie.Need-loop-again Inv-loop μ-loop
-loop-again c =
-    let t = c .before in (
-      search needs,
-      gathered-drop _ _ _ (t .loop-test .taken)
-          (⊎-elim (λ w. with-room _ _ (w .0 .taken) (w .2) (w .3) (w .4))
-          (⊎-elim (λ w. past-other _ _ (w .0 .left) (w .2 .taken) (w .3) (w .4) (w .5))
-          (λ w. past-blank _ _ (w .0 .left) (w .2 .left) (w .3) (w .4) (w .5)))
-          (c .if1 .came))
-          ∙ t .before .loop .inv .1,
-    )
+pass-over-requires-2 : tie.Need-pass-over-requires-2
+pass-over-requires-2 c κs = filled _ _ (c .before .keep2 .ensures) (omega arith) (omega arith)
 
-returns : tie.Need-returns Inv-loop μ-loop
-returns c = sym (gathered-done _ _ _ (c .loop-test .left)) ∙ c .before .loop .inv .1
+returns-3 : tie.Need-returns-3
+returns-3 c =
+    let kept = c .before .before in
+    let a = at-start kept .args in
+    gathered-cut (a .g) (a .bytes .now) (161 - a .g .count) (kept .keep2 .ensures) (c .pass-over2 .ensures)
 
 pub gather-spec : {M : Type 1} → statement M
 gather-spec =
     tie.close
     (tie.spec
-    Inv-loop
-    μ-loop
-    loop-holds
-    (λ c. omega arith)
-    (λ c. omega arith)
-    (λ c. omega arith)
-    (λ c. omega arith)
-    (λ c. omega arith)
-    (λ c. omega arith)
-    loop-again
-    returns)
+    (λ c κs. search needs)
+    (λ c. search needs)
+    (λ c. search needs)
+    (λ c κs. search needs)
+    (λ c. search needs)
+    slice-aggregate-keep
+    keep-requires-2
+    (λ c. search needs)
+    (λ c. search needs)
+    (λ c. search needs)
+    pass-over-requires-2
+    returns-3)

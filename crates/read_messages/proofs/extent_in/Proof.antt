@@ -20,26 +20,30 @@ returns-2 c =
     letters-in-it _ (kept .before .args .count) (kept .before .args .t2) (omega (arith, kept .kept-count .ensures .0)) _
     (c .before .all-digits .ensures) (not-true _ (c .if2 .taken))
 
-abbrev at-all-digits : tie.After-length-of → tie.After-all-digits
-at-all-digits c = c .before .before .before .before .before
+abbrev at-length-of : tie.After-is-between → tie.After-length-of
+at-length-of c = c .before .before .before .before
 
 returns-3 : tie.Need-returns-3
 unfolding part
 returns-3 c =
-    let digits = at-all-digits (c .before) in
+    let between = c .before in
+    let layout = at-length-of between in
+    let digits = layout .before .before in
     let kept = at-kept-count digits in
     other-length _ (kept .before .args .count) (kept .before .args .t2) (omega (arith, kept .kept-count .ensures .0)) _
-    (digits .all-digits .ensures) (not-false _ (c .before .before .before .before .before .if2 .left)) _
-    (c .before .before .number .ensures) _ (c .before .length-of .ensures) (c .if3 .taken)
+    (digits .all-digits .ensures) (not-false _ (layout .before .if2 .left)) _ (between .before .number .ensures) _
+    (layout .length-of .ensures) _ (between .is-between .ensures) (not-true _ (c .if3 .taken))
 
 returns-4 : tie.Need-returns-4
 unfolding part
 returns-4 c =
-    let digits = at-all-digits (c .before) in
+    let between = c .before in
+    let layout = at-length-of between in
+    let digits = layout .before .before in
     let kept = at-kept-count digits in
     its-length _ (kept .before .args .count) (kept .before .args .t2) (omega (arith, kept .kept-count .ensures .0)) _
-    (digits .all-digits .ensures) (not-false _ (c .before .before .before .before .before .if2 .left)) _
-    (c .before .before .number .ensures) _ (c .before .length-of .ensures) (c .if3 .left)
+    (digits .all-digits .ensures) (not-false _ (layout .before .if2 .left)) _ (between .before .number .ensures) _
+    (layout .length-of .ensures) _ (between .is-between .ensures) (not-false _ (c .if3 .left))
 
 pub extent-in-spec : {M : Type 1} → statement M
 extent-in-spec =
@@ -52,6 +56,7 @@ extent-in-spec =
     (λ c. search needs)
     (λ c κs. search needs)
     returns-2
+    (λ c κs. search needs)
     (λ c. search needs)
     (λ c. search needs)
     (λ c. search needs)

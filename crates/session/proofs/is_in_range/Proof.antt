@@ -25,7 +25,7 @@ unfolding inRange
 returns-4 c =
     let t = c .before .before .before .before .before .before in
     let s = t .before .before .before .before .before .before .args .s in
-    later _ _ (later _ _ (stop _ _ (lt-leb (s .gathered .count) 161 (omega arith))))
+    later _ _ (later _ _ (stop _ _ (lt-leb (s .gathered .count) 500 (omega arith))))
 
 returns-5 : tie.Need-returns-5
 unfolding inRange
@@ -34,7 +34,7 @@ returns-5 c =
     let s = t .before .before .before .before .before .before .args .s in
     past _ _ _ (passed (t .before .is-real-time .ensures) (t .if1 .left))
     (past _ _ _ (between-in 1 16 (s .opening .kind) (omega arith) (omega arith))
-    (past _ _ _ (le-leb (s .gathered .count) 161 (omega arith)) (turned (c .is-cut .ensures))))
+    (past _ _ _ (le-leb (s .gathered .count) 500 (omega arith)) (turned (c .is-cut .ensures))))
 
 pub is-in-range-spec : {M : Type 1} → statement M
 is-in-range-spec =

@@ -63,18 +63,18 @@ returns-7 c =
 returns-8 : tie.Need-returns-8
 returns-8 c =
     let sized = sized7 (c .before .before) in
-    refused-at sized 6 (le-ltb (num (part 228 4 (bytes sized))) 5 (omega (arith, c .before .read4 .ensures, c .if8 .taken)))
+    refused-at sized 6 (le-ltb (num (part 228 1 (bytes sized))) 5 (omega (arith, c .before .read17 .ensures, c .if8 .taken)))
 
 returns-9 : tie.Need-returns-9
 returns-9 c =
     let sized = sized7 (c .before .before .before .before) in
-    refused-at sized 7 (le-ltb (num (part 232 1 (bytes sized))) 2 (omega (arith, c .before .read17 .ensures, c .if9 .taken)))
+    refused-at sized 7 (le-ltb (num (part 229 1 (bytes sized))) 2 (omega (arith, c .before .read18 .ensures, c .if9 .taken)))
 
 returns-10 : tie.Need-returns-10
 returns-10 c =
     let at-if8 = c .before .before .before in
-    let at-read4 = at-if8 .before in
-    let at-if7 = at-read4 .before in
+    let at-read17 = at-if8 .before in
+    let at-if7 = at-read17 .before in
     let at-read16 = at-if7 .before in
     let at-if6 = at-read16 .before in
     let at-read15 = at-if6 .before in
@@ -94,8 +94,8 @@ returns-10 c =
     let place = lt-ltb (num (part 3 1 l)) 7 (omega (arith, at-read14 .read14 .ensures, at-if5 .if5 .left)) in
     let cr = lt-ltb (num (part 61 1 l)) 2 (omega (arith, at-read15 .read15 .ensures, at-if6 .if6 .left)) in
     let blank = lt-ltb (num (part 66 1 l)) 2 (omega (arith, at-read16 .read16 .ensures, at-if7 .if7 .left)) in
-    let extent = lt-ltb (num (part 228 4 l)) 5 (omega (arith, at-read4 .read4 .ensures, at-if8 .if8 .left)) in
-    let over = lt-ltb (num (part 232 1 l)) 2 (omega (arith, c .before .before .read17 .ensures, c .before .if9 .left)) in
+    let extent = lt-ltb (num (part 228 1 l)) 5 (omega (arith, at-read17 .read17 .ensures, at-if8 .if8 .left)) in
+    let over = lt-ltb (num (part 229 1 l)) 2 (omega (arith, c .before .before .read18 .ensures, c .before .if9 .left)) in
     c .is-exact-key .ensures
     ∙ passed l (at-if1 .if1 .left) (λ k. at-if1 .before .shared-slice-known .given k .fits)
     (opened, (ended, (told, (place, (cr, (blank, (extent, (over, tt))))))))

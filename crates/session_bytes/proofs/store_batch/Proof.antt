@@ -25,7 +25,7 @@ returns c =
     let a = at-running-row .before .before .before in
     let x = a .args .a in
     let t = a .args .b .now in
-    let h : 475 ≤ length t = omega (arith, a .pre) in
+    let h : 472 ≤ length t = omega (arith, a .pre) in
     let z : Sized batchShape (batchTo x) = (at-store-suo .store-suo .ensures .1, sized runningShape running-scalar (runningTo x)) in
     let running = as-row runningShape running-scalar (runningTo x) _ _ _ _ _ refl (at-running-row .running-row .ensures)
     (c .before .before .write-row .ensures) in

@@ -18,7 +18,7 @@ returns c =
     let a = at-store-front .before .before .before .before .before in
     let v = sessionTo (a .args .s) in
     let t = a .args .b .now in
-    let h : 475 ≤ length t = omega (arith, a .pre) in
+    let h : 472 ≤ length t = omega (arith, a .pre) in
     let z : Sized sessionShape v = (
       at-store-front .store-front .ensures .1,
       (at-store-gathered .store-gathered .ensures .1, c .before .before .store-batch .ensures .1),

@@ -6,7 +6,6 @@ use lib.ListN.{length}
 use Rattle.codec.specs.Layout.{Sized, laid, width}
 use Rattle.codec.proofs.Laws.{laid-is}
 use Rattle.session_bytes.specs.Session.{suoShape, suoTo}
-use Rattle.session_bytes.proofs.Fields.{extent-bytes}
 use borrow.Author.Needs.{needs}
 use Rattle.session_bytes.proofs.store_suo.Statement.{statement}
 use Rattle.session_bytes.proofs.store_suo.Tie as tie
@@ -16,21 +15,20 @@ unfolding laid width
 returns c =
     let at-write1 = c .before .before .before .before .before .before .before .before .before in
     let at-flag-number = at-write1 .before in
-    let at-write4 = at-flag-number .before .before .before .before in
-    let at-extent-number = at-write4 .before in
+    let at-first = at-flag-number .before .before .before .before in
+    let at-extent-number = at-first .before in
     let a = at-extent-number .before .before .before in
     let m = a .args .t2 in
     let t = a .args .b .now in
-    let h : 394 ≤ length t = omega (arith, a .pre) in
+    let h : 391 ≤ length t = omega (arith, a .pre) in
     let n : length (m .text) ≡ 161 = search needs in
-    let z : Sized suoShape (suoTo m) = ((tt, (tt, (tt, tt))), (tt, n)) in (
+    let z : Sized suoShape (suoTo m) = (tt, (tt, n)) in (
       rw (
         c .before .before .write-bytes .ensures,
-        at-write1 .write1 .ensures,
+        at-write1 .write12 .ensures,
         at-flag-number .flag-number .ensures,
-        at-write4 .write4 .ensures,
+        at-first .write1 .ensures,
         at-extent-number .extent-number .ensures,
-        extent-bytes (m .extent),
       )
           (laid-is suoShape (suoTo m) z 228 t h),
       z,

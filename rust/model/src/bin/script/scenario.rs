@@ -41,6 +41,7 @@ pub fn script() -> Vec<u8> {
     m.esis();
     m.frames();
     m.unequal();
+    m.newer();
     m.requests();
     m.records();
     m.ends();
@@ -486,7 +487,7 @@ impl Maker {
         self.note("---- an ESI refused: each notice, in the order of the checks");
         self.esi_changed("under 11 characters", |e| e.truncate(10), "E1032");
         self.esi_changed("length not digits", |e| put(e, LENGTH, b"16X"), "E1010");
-        self.esi_changed("length not the layout's", |e| put(e, LENGTH, b"128"), "E1011");
+        self.esi_changed("length below the layout's", |e| put(e, LENGTH, b"128"), "E1011");
         self.esi_changed("characters over that are not blank", |e| e.extend(b"  X"), "E1010");
         self.esi_changed("a tab over", |e| e.extend(b"\t"), "E1010");
         for f in FIELDS {
@@ -496,7 +497,6 @@ impl Maker {
                 n => self.esi_changed(&format!("format of field {n}"), |e| e[f.at] = b'a', "E1010"),
             }
         }
-        self.esi_changed("version 130", |e| put(e, VERSION, b"130"), "E1011");
         self.esi_changed("field 4 used", |e| put(e, SUCCESS, b"K"), "E1011");
         self.esi_changed("field 5 not 0000", |e| put(e, CODE, b"1001"), "E1011");
         self.esi_changed("field 6 blank", |e| put(e, SOFTWARE, &[b' '; 16]), "E1011");
@@ -546,7 +546,7 @@ impl Maker {
         self.opened();
         self.changed("a SUO under 11 characters", |s, _| s.truncate(10), "E1032");
         self.changed("a SUO's length not digits", |s, _| put(s, LENGTH, b"1 8"), "E1010");
-        self.changed("a SUO's length not the layout's", |s, _| put(s, LENGTH, b"161"), "E1011");
+        self.changed("a SUO's length below the layout's", |s, _| put(s, LENGTH, b"127"), "E1011");
         self.changed("a SUO's characters over, not blank", |s, _| s.extend(b" X"), "E1010");
         self.changed(
             "a SUO's characters over past 161, not blank",
@@ -565,9 +565,9 @@ impl Maker {
             "E1010",
         );
         self.changed(
-            "a VAR's length not the layout's",
+            "a VAR's length below the layout's",
             |_, v| {
-                v[7] = b'2';
+                v[7] = b'0';
                 v.truncate(160)
             },
             "E1011",
@@ -717,6 +717,194 @@ impl Maker {
         );
         self.wished("version 110 with floor 110", FIRST, |w| w.version = 110, "K1001");
         self.line("back");
+    }
+
+    // ---- longer messages and their versions
+
+    fn newer(&mut self) {
+        self.note("");
+        self.note("---- newer releases: versions above 120, lengths from the layout's to 500");
+        self.line("keep");
+        let of = |version, length: usize| move |w: &mut Wish| (w.version, w.rest) = (version, vec![b'n'; length - 161]);
+        for (version, length, expected) in [
+            (121, 161, "K1001"),
+            (130, 162, "K1001"),
+            (999, 499, "K1001"),
+            (121, 500, "K1001"),
+            (120, 162, "E1011"),
+            (120, 500, "E1011"),
+            (110, 162, "E1011"),
+            (100, 161, "E1012"),
+            (109, 500, "E1012"),
+            (111, 161, "E1012"),
+            (119, 162, "E1012"),
+        ] {
+            self.esi_wished(&format!("version {version} of {length}"), FIRST, of(version, length), expected);
+        }
+        for length in [b"160", b"501", b"000", b"999"] {
+            let what = format!("version 130, its length {}", String::from_utf8_lossy(length));
+            self.esi_changed(
+                &what,
+                |e| {
+                    put(e, VERSION, b"130");
+                    put(e, LENGTH, length)
+                },
+                "E1011",
+            );
+        }
+        let longer = |e: &mut Vec<u8>, version: &[u8], rest: &[u8]| {
+            put(e, VERSION, version);
+            e.extend(rest);
+            let length = e.len();
+            put(e, LENGTH, length.to_string().as_bytes());
+        };
+        self.esi_changed("the rest is under no checksum, the length is", |e| longer(e, b"130", b"xx"), "E1020");
+        self.esi_changed(
+            "a character over behind the rest",
+            |e| {
+                longer(e, b"130", b"xx");
+                e.push(b'X')
+            },
+            "E1010",
+        );
+        self.esi_changed(
+            "version 120 of 162, and field 17",
+            |e| {
+                longer(e, b"120", b"x");
+                e[150] = b'x'
+            },
+            "E1010",
+        );
+        self.esi_changed("version 12x of 162", |e| longer(e, b"12x", b"x"), "E1010");
+        self.esi_changed(
+            "version 100 of 162, and field 14",
+            |e| {
+                longer(e, b"100", b"x");
+                put(e, SPARE, b"        1")
+            },
+            "E1011",
+        );
+
+        self.note("frames: SUO and VAR of different lengths, any bytes in the rest");
+        self.opened();
+        let any: Vec<u8> = (0..=255).filter(|b| *b != b'\n').collect();
+        for (suo, var) in [(129, 161), (128, 500), (500, 162), (161, 161)] {
+            let what = format!("a SUO of {suo}, a VAR of {var}");
+            let (a, b) = (any.iter().cycle().copied(), any.iter().rev().cycle().copied());
+            let rests = (a.take(suo - 128).collect(), b.take(var - 161).collect());
+            self.wished(
+                &what,
+                FIRST,
+                |w| {
+                    w.version = 130;
+                    (w.suo_rest, w.rest) = rests;
+                },
+                "K1001",
+            );
+        }
+        let both = |version, suo: usize, var: usize| {
+            move |w: &mut Wish| {
+                w.version = version;
+                (w.suo_rest, w.rest) = (vec![b'N'; suo - 128], vec![b'N'; var - 161]);
+            }
+        };
+        self.wished("version 120, a SUO of 129", FIRST, both(120, 129, 161), "E1011");
+        self.wished("version 120, a VAR of 162", FIRST, both(120, 128, 162), "E1011");
+        self.wished("version 119, a SUO of 177", FIRST, both(119, 177, 161), "E1012");
+        self.changed("the VAR's version 100", |_, v| put(v, VERSION, b"100"), "E1026");
+        self.changed("the VAR's version 130", |_, v| put(v, VERSION, b"130"), "E1026");
+        self.changed("the SUO's version 130", |s, _| put(s, VERSION, b"130"), "E1026");
+        self.changed("a SUO of 501", |s, _| put(s, LENGTH, b"501"), "E1011");
+        self.changed(
+            "a SUO's characters over behind its rest",
+            |s, _| {
+                longer(s, b"130", b"abc");
+                s.extend(b"  .")
+            },
+            "E1010",
+        );
+
+        self.newer_reads();
+        self.newer_ends();
+        self.line("back");
+    }
+
+    fn newer_reads(&mut self) {
+        self.note("one file in reads of several sizes: the rest over several records, a SUO that takes its VAR");
+        let mut w = self.wish(FIRST);
+        w.version = 130;
+        w.rest = b">>SUO128120 and more\0\r of a newer release".to_vec();
+        w.suo_rest = [b">>VAR161120".to_vec(), vec![b'x'; 200]].concat();
+        let data = one("NEWER 0001");
+        let (esi, suo) = (customer::esi(&w), customer::suo(&w));
+        let x = Wish { time: w.time + 10_000, ..w };
+        let mut y = self.wish(FIRST);
+        y.time += 20_000;
+        let mut greedy = customer::suo(&y);
+        put(&mut greedy, LENGTH, b"300");
+        let mut all: Vec<u8> = Vec::new();
+        let mut add = |record: &[u8], end: &[u8]| all.extend([record, end].concat());
+        add(&esi[..161], b"\r\n");
+        add(&esi[161..], b"  \n");
+        add(&greedy, b"\n");
+        add(&data[0], b"\n");
+        add(&customer::var(&y, &data), b"\n");
+        add(b"c", b"\n");
+        add(b"data of a frame without its VAR", b"\n");
+        let (suo_x, var_x) = (customer::suo(&x), customer::var(&x, &data));
+        add(&suo_x[..128], b"\n");
+        add(&suo_x[128..], b"\r\n");
+        add(&data[0], b"\n");
+        add(&var_x[..161], b"\r\n");
+        add(b"", b"\n");
+        add(&var_x[161..190], b"\n");
+        add(&var_x[190..], b"\n");
+        add(b"    ", b"\n");
+        add(&suo[..128], b"\n");
+        add(&suo[128..200], b"\n");
+        let mut before = Vec::new();
+        for (k, n) in ["1", "2", "3", "7", "80", "161", "500", "8192"].iter().enumerate() {
+            self.line("back");
+            self.open();
+            if k == 0 {
+                self.line("file");
+                all.chunks(500).for_each(|part| self.bytes(part));
+            }
+            self.note(&format!("reads of {n}"));
+            before.push(self.line(&format!("run {n}")));
+        }
+        let codes = ["K1001", "E1024", "K1001", "E1023", "E1032"];
+        let mut rest = &before[0][..];
+        for code in codes {
+            rest = rest.split_once(code).unwrap_or_else(|| panic!("{code} in {}", before[0])).1;
+        }
+        assert!(before.iter().all(|b| *b == before[0]), "{}", before[0]);
+    }
+
+    fn newer_ends(&mut self) {
+        self.note("the file's end, and the size limit, within the rest");
+        let mut w = self.wish(FIRST);
+        (w.version, w.rest, w.suo_rest) = (130, vec![b'n'; 39], vec![b'n'; 72]);
+        let (esi, suo) = (customer::esi(&w), customer::suo(&w));
+        for (there, expected) in [(160, "E1032"), (161, "E1032"), (199, "E1032"), (200, "K1001")] {
+            self.line("back");
+            self.open();
+            self.line("file");
+            self.record(&esi[..there], b"");
+            self.read("reply 0, buffer");
+            self.shows(&format!("an ESI of 200, {there} of it there"), "end 400", expected);
+        }
+        for (there, expected) in [(128, "E1032"), (199, "E1032"), (200, "E1024")] {
+            self.opened();
+            self.line("file");
+            self.record(&suo[..there], b"");
+            self.read("reply 0, buffer");
+            self.shows(&format!("a SUO of 200, {there} of it there"), "end 400", expected);
+        }
+        self.open();
+        self.line("size 4294967115");
+        self.file_of(&[esi]);
+        self.shows("180 bytes are left for an ESI of 200", "read 8192 400", "taken up to 181, reply 237, finished");
     }
 
     fn requests(&mut self) {

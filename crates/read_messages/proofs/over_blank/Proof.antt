@@ -7,8 +7,8 @@ use Rattle.ground.proofs.Parts.{some-over}
 use Rattle.text.specs.Characters.{allBlank}
 use Rattle.read_messages.proofs.Kept.{none-over}
 use borrow.Author.Needs.{needs}
-use Rattle.read_messages.proofs.rest_blank.Statement.{statement}
-use Rattle.read_messages.proofs.rest_blank.Tie as tie
+use Rattle.read_messages.proofs.over_blank.Statement.{statement}
+use Rattle.read_messages.proofs.over_blank.Tie as tie
 
 returns : tie.Need-returns
 returns c = none-over (c .before .before .args .from) (c .before .before .args .count) (c .before .before .args .t1)
@@ -20,8 +20,8 @@ returns-2 c = c .all-blank .ensures
     (some-over _ (c .before .before .before .before .before .args .count) _ _
     (c .before .before .before .before .kept-count .ensures .0) (search needs))
 
-pub rest-blank-spec : {M : Type 1} → statement M
-rest-blank-spec =
+pub over-blank-spec : {M : Type 1} → statement M
+over-blank-spec =
     tie.close
     (tie.spec
     (λ c κs. search needs)
