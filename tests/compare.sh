@@ -1,7 +1,7 @@
 #!/bin/sh
 # The library beside the independent model (rust/model): generated cases, tables with spoiled bytes, forged sessions and long
-# batches from one seed, about two minutes' worth; then each planted fault has to be found within the same cases, and a file goes to
-# the byte past the size limit.
+# batches from one seed, about two minutes' worth; the whole grid of R-2; a file to the byte past the size limit; and each planted
+# fault has to be found within the same cases.
 # usage: sh tests/compare.sh [SEED [CASES]]     (LENTILPOT_LIB: a folder with libedge.a; where it isn't set the archive is made)
 set -eu
 [ -z "${LENTILPOT_LIB:-}" ] || LENTILPOT_LIB=$(cd "$LENTILPOT_LIB" && pwd)
@@ -34,16 +34,21 @@ begin() { # WORDS..
     target/release/compare "$@" >"$work/beside" 2>&1 &
     beside=$!
 }
-end() { # WORDS..
+one() { # WORDS..
     target/release/compare "$@" || exit 1
+}
+end() { # WORDS..
+    one "$@"
     wait "$beside" || { cat "$work/beside" >&2; exit 1; }
     beside=
     cat "$work/beside"
 }
-# The cases in two halves, side by side; then, side by side too, the planted faults, and a file to the byte past the size limit and
-# several ways past it.
-half=$((cases / 2))
-begin "$seed" "$half"
-end $((seed + half)) $((cases - half))
-begin size
-end planted "$seed" "$cases"
+# Most of the cases in two parts, side by side; then, side by side too, the grid, and what together takes as long: a file to the byte
+# past the size limit and several ways past it, the planted faults, and the rest of the cases.
+part=$((cases * 3 / 8))
+begin "$seed" "$part"
+end $((seed + part)) "$part"
+begin grid
+one size
+one planted "$seed" "$cases"
+end $((seed + 2 * part)) $((cases - 2 * part))

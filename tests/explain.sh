@@ -150,7 +150,7 @@ explained 'field SUOJAUSALUE of the SUO in line 2, "x"' file
 newer=$root/samples/newer.txt
 LC_ALL=C sed -e '3s/NEW FIELD/>>SUO1281/' -e '15s/~/x/g' "$newer" >file
 for same in "$newer" file; do
-    explained 'K 1001  ESI, lines 1 to 3, byte ' "$same"
+    explained 'K 1001  ESI, line 3, byte ' "$same"
     grep -qF 'K 1001  batch 1, lines 4 to 15, byte ' out || fail "expected a newer batch to be accepted"
 done
 LC_ALL=C sed '5s/$/x/' "$newer" >file
@@ -211,7 +211,7 @@ notice file 'ARVOVIRHE KENTÄSSÄ SANOMATUNNUS >>ESI' 'field SANOMATUNNUS of the
 sed '1s/$/ x/' "$root/samples/good.txt" >file
 notice file 'MUOTOVIRHE KENTÄSSÄ SANOMAPITUUS 161' 'field SANOMAPITUUS of the ESI in line 1, "161": more than blanks follows the message in its last record' \
     'field SANOMAPITUUS, "161": more than blanks follows the message in its last record. Mend'
-sed '1s/^\(>>ESI\)161\(.*\)$/\1162\2X/' "$root/samples/good.txt" >file
+sed '1s/^\(>>ESI\)161\(.\{153\}\)/\1162\2X/' "$root/samples/good.txt" >file
 notice file 'ARVOVIRHE KENTÄSSÄ SANOMAPITUUS 162' 'field SANOMAPITUUS of the ESI in line 1, "162"' "a field's value: field SANOMAPITUUS, \"162\" (a ?"
 sed '1s/^\(>>ESI\)161/\1501/' "$root/samples/good.txt" >file
 notice file 'ARVOVIRHE KENTÄSSÄ SANOMAPITUUS 501' 'field SANOMAPITUUS of the ESI in line 1, "501"' "a field's value: field SANOMAPITUUS, \"501\" (a ?"

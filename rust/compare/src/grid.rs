@@ -1,6 +1,6 @@
 //! The whole grid of R-2: each length at and about its bounds, with each version and floor, stated by one message of a
-//! file that is right but for those two, and the file cut into reads of every size. The generated cases come upon these
-//! points by chance; here none is left out.
+//! file that is right but for those two, and the file cut into reads of every size, or of many. The generated cases come
+//! upon these points by chance; here none is left out.
 use model::bank::{padded, set_up, who};
 use model::case::{Both, Call, Case, Difference, Front, Step};
 use model::customer::{self, put, seal, Wish};
@@ -22,6 +22,9 @@ const BLANKS: usize = 40;
 /// What a rest is made of. One of a single character has the one that the point's version and floor turn up; those above
 /// 120 turn up NUL, a small letter and bytes past 7E.
 const REST: &[u8] = b">>SUO\0\xC4 \rz\x7F~#r\xFF";
+
+/// The sizes of reads where not every one is tried: small ones, and those about a fold, the layout's length and the most.
+const SIZES: [usize; 16] = [1, 2, 3, 7, 79, 80, 81, 82, 160, 161, 162, 163, 499, 500, 501, 502];
 
 /// What one message of a file states, and the floor it meets.
 #[derive(Clone, Copy, PartialEq, Debug)]
@@ -223,8 +226,11 @@ struct Run {
 }
 
 impl GridFile {
-    fn sizes(&self) -> Vec<usize> {
-        (1..=self.bytes.len()).rev().collect()
+    /// The sizes of its reads, the largest first: every one where the message is folded, and else where that is asked for.
+    fn sizes(&self, every: bool) -> Vec<usize> {
+        let whole = self.bytes.len();
+        let all = every || self.laid == Laid::Folded;
+        (1..=whole).rev().filter(|n| all || *n == whole || SIZES.contains(n)).collect()
     }
 
     /// Opens the file, reads so many bytes of it at a time, those not taken again, and ends it.
@@ -275,6 +281,8 @@ fn name(kind: Kind) -> String {
 /// What was tried.
 #[derive(Default)]
 pub struct Tried {
+    /// Whether each file is read in every size.
+    every: bool,
     pub points: u64,
     files: u64,
     cuttings: u64,
@@ -291,11 +299,15 @@ pub struct Parted {
 }
 
 impl Tried {
+    pub fn new(every: bool) -> Tried {
+        Tried { every, ..Tried::default() }
+    }
+
     /// Compares a file in reads of each size, the largest first, up to one that parts the two.
     pub fn file(&mut self, front: &mut dyn Front, file: &GridFile) -> Result<(), Parted> {
         self.files += 1;
         let mut whole: Option<Gave> = None;
-        for size in file.sizes() {
+        for size in file.sizes(self.every) {
             let mut run = Run::default();
             let gave = file.drive(front, size, &mut run);
             self.cuttings += 1;
@@ -329,7 +341,7 @@ fn verdict(judged: &Judged) -> String {
 
 impl fmt::Display for Tried {
     fn fmt(&self, f: &mut fmt::Formatter) -> fmt::Result {
-        let Tried { points, files, cuttings, calls, told } = self;
+        let Tried { points, files, cuttings, calls, told, .. } = self;
         write!(f, "{points} points of the grid, {files} files, cut in {cuttings} ways, {calls} calls")?;
         for kind in KINDS {
             let of = told.iter().filter(|((k, _), _)| *k == kind).map(|((_, verdict), n)| format!("{verdict} {n}"));

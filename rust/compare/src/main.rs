@@ -2,7 +2,7 @@
 //!
 //!     compare SEED CASES            generated cases, spoiled tables, forged sessions and long batches from this seed on
 //!     compare planted SEED CASES    each planted fault has to be found within these cases
-//!     compare grid                  the whole grid of R-2, each file cut into reads of every size (takes about a minute)
+//!     compare grid [every]          the whole grid of R-2 in reads of many sizes (takes about a minute), or in every size
 //!     compare size                  a file to the byte past the size limit (takes about a minute)
 //!
 //! A difference is printed with its case made small; the exit status is then 1.
@@ -162,9 +162,9 @@ fn planted(seed: u64, cases: u64) -> bool {
 }
 
 /// Every file of the grid; the first few differences are shown, and the others counted.
-fn grid() -> bool {
+fn grid(every: bool) -> bool {
     let front = &mut Edge(Slip::None);
-    let (points, mut tried) = (grid::points(), grid::Tried::default());
+    let (points, mut tried) = (grid::points(), grid::Tried::new(every));
     let mut progress = Progress::new("points of the grid");
     let mut differences = 0;
     for point in &points {
@@ -204,14 +204,15 @@ fn main() {
     let number = |w: &str| w.parse::<u64>().ok();
     let words: Vec<&str> = words.iter().map(|w| w.as_str()).collect();
     let well = match words[..] {
-        ["grid"] => grid(),
+        ["grid"] => grid(false),
+        ["grid", "every"] => grid(true),
         ["size"] => size(),
         ["planted", a, b] if number(a).is_some() && number(b).is_some() => {
             planted(number(a).unwrap(), number(b).unwrap())
         }
         [a, b] if number(a).is_some() && number(b).is_some() => run(number(a).unwrap(), number(b).unwrap()),
         _ => {
-            eprintln!("usage: compare SEED CASES | compare planted SEED CASES | compare grid | compare size");
+            eprintln!("usage: compare SEED CASES | compare planted SEED CASES | compare grid [every] | compare size");
             exit(2);
         }
     };
