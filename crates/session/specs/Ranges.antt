@@ -26,8 +26,7 @@ isCut OtherLength = false
 isCut CutShort = true
 
 -- the time is real, the data type is 1 to 16, at most as many characters are counted as the longest message has, the SUO was not cut
--- short; the day
--- is the table's, and every other number may be any that its type holds
+-- short; the day is the table's, and every other number may be any that its type holds
 unfoldable pub inRange : Session → Bool
 inRange s =
     both (realTime (s .opening .time))
