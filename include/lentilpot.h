@@ -50,8 +50,8 @@
 extern "C" {
 #endif
 
-#define LP_VERSION "1.2"       /* of these functions and constants */
-#define LP_VERSION_NUMBER 102  /* the same for #if: 100 times the first number, and the second */
+#define LP_VERSION "1.3"       /* of these functions and constants */
+#define LP_VERSION_NUMBER 103  /* the same for #if: 100 times the first number, and the second */
 
 #define LP_TABLE_SIZE 49152  /* the bytes of a table */
 #define LP_SESSION_SIZE 472  /* the bytes of a session: what lp_session_size() says */

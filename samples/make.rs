@@ -141,6 +141,7 @@ fn main() -> std::io::Result<()> {
                 ("unknown", customer("C").good("941017073000", 20)),
                 ("damaged", damaged),
                 ("newer", customer("").newer("941017100000", 70)),
+                ("friday", customer("").good("941014170000", 80)),
                 ("batches", customer("").many("941017090000", 20, 40)),
                 ("outside", b"HELLO\n".to_vec()),
                 ("empty", vec![]),

@@ -236,7 +236,7 @@ says "a field's value: field that the notice names, as shown there"
 sed '1s/^\(.\{85\}\)00/\105/' "$root/samples/good.txt" >file
 explained 'E 1014' file
 reply_of 1014
-says "make the file anew with the current key (the previous one is good for stamps from the new one's first day to the changeover's last, and for none before)"
+says "make the file anew with the current key (the previous one is good for stamps up to the changeover's last day, unless it was dropped)"
 sed '1s/^\(.\{85\}\)0/\14/' "$root/samples/good.txt" >file
 explained 'E 1013' file
 reply_of 1013

@@ -6,10 +6,10 @@ use Prim.Native.Nat.{ℕ, _+_, _≤_}
 use native.Mathlib.Omega.{arith}
 use borrow.Author.Tests.{le-leb, eq-eqb, ne-eqb, ltb-false}
 use lib.Dec.{eqb, ltb, leb}
-use Rattle.ground.specs.Choice.{either, pick}
-use Rattle.ground.proofs.Choices.{left, right, join, picks, skips}
+use Rattle.ground.specs.Choice.{either, fails, pick}
+use Rattle.ground.proofs.Choices.{left, right, join, decides, either-decides, picks, skips}
 use Rattle.ground.proofs.Bools.{fails-of, under}
-use Rattle.calendar.specs.Dates.{realDate, later}
+use Rattle.calendar.specs.Dates.{realDate, isBefore, later}
 use Rattle.calendar.specs.declared.Date.{Date}
 use Rattle.calendar.specs.declared.CalendarDays.{CalendarDays}
 use Rattle.calendar.proofs.Days.{date-real, later-after}
@@ -170,3 +170,12 @@ unfolding changed heldKey previousNamed
 after-change old key today days =
     let g = old .generation in
     skips _ _ _ (ne-eqb _ _ (next-differs g)) ∙ picks (eqb g g) (Is (old .key)) Missing (eq-eqb g g refl)
+
+-- and good for any date up to the last day, whatever day the changeover began (document 02, R-3)
+pub good-after-change : (old : KeyPair) (key : ℕ) (today : Date) (days : CalendarDays) (date : Date)
+    → goodFor (changed old (nextGeneration (old .generation)) key today days) (old .generation) date
+    ≡ fails (isBefore (later today days) date)
+unfolding changed goodFor previousGood
+good-after-change old key today days date =
+    let g = old .generation in
+    either-decides _ _ (ne-eqb _ _ (next-differs g)) ∙ decides _ _ (eq-eqb g g refl)

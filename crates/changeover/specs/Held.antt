@@ -20,14 +20,13 @@ previousNamed (Held p) generation = pick (eqb (p .generation) generation) (Is (p
 unfoldable pub heldKey : KeyPair → (generation : ℕ) → Key
 heldKey k generation = pick (eqb (k .generation) generation) (Is (k .key)) (previousNamed (k .previous) generation)
 
--- the previous key has that generation, and the date lies within its first to its last day
+-- the previous key has that generation, and the date is not past its last day
 unfoldable pub previousGood : Previous → (generation : ℕ) (date : Date) → Bool
 previousGood Nothing generation date = false
 previousGood (Held p) generation date =
-    both (eqb (p .generation) generation)
-    (both (fails (isBefore date (p .first))) (fails (isBefore (p .last) date)))
+    both (eqb (p .generation) generation) (fails (isBefore (p .last) date))
 
--- the generation is current, or previous with the stamp's date within first to last day
+-- the generation is current, or previous with the stamp's date up to its last day (document 02, R-3: whatever day its changeover began)
 unfoldable pub goodFor : KeyPair → (generation : ℕ) (date : Date) → Bool
 goodFor k generation date = either (eqb (k .generation) generation) (previousGood (k .previous) generation date)
 

@@ -36,19 +36,16 @@ pub fn held(k: customer::KeyPair, generation: u32) -> Key
     named(p, generation)
 }
 
-// Whether a key that is held has that generation, and the date lies within its changeover.
-fn is_within(c: customer::Changeover, generation: u32, date: calendar::Date) -> bool
+// Whether a key that is held has that generation, and the date is not past its last day. On which day its changeover began doesn't count:
+// a file that was made before it may arrive in it.
+fn is_up_to_last(c: customer::Changeover, generation: u32, date: calendar::Date) -> bool
     ensures { λ r. ⌜ r ≡ previousGood (Held c) generation date ⌝ }
 {
     if c.generation != generation {
         return false;
     }
-    let first = c.first;
-    if date.before(first) {
-        return false;
-    }
-    let last = c.last;
-    !last.before(date)
+    let last_day = c.last;
+    !last_day.before(date)
 }
 
 // The same of what may be held.
@@ -57,11 +54,11 @@ fn is_previous_good(p: customer::Previous, generation: u32, date: calendar::Date
 {
     match p {
         customer::Previous::Nothing => false,
-        customer::Previous::Held(c) => is_within(c, generation, date),
+        customer::Previous::Held(c) => is_up_to_last(c, generation, date),
     }
 }
 
-// Whether a generation is good for a stamp of that date: the current one always, the previous one within its changeover.
+// Whether a generation is good for a stamp of that date: the current one always, the previous one up to its last day.
 pub fn is_good_for(k: customer::KeyPair, generation: u32, date: calendar::Date) -> bool
     ensures { λ r. ⌜ r ≡ goodFor k generation date ⌝ }
 {

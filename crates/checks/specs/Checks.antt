@@ -89,7 +89,7 @@ roomChecks t c today = check 1034 (leb 64 (length (liveStamps (t .holidays) toda
 
 -- ---- the ESI
 
--- 1013 and 1014: a generation neither current, nor previous with the stamp's date within first to last day; 1020 the checksum
+-- 1013 and 1014: a generation neither current, nor previous with the stamp's date up to its last day; 1020 the checksum
 unfoldable pub esiKeyChecks : Customer → List ℕ → List Check
 esiKeyChecks c m =
     check 1013 (fails (goodFor (c .transport) (transportGenerationOf m) (dateOfStamp m))) ∷

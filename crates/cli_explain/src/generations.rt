@@ -4,10 +4,8 @@ use cli_texts::sheet;
 use cli_texts::sheet::Sheet;
 
 fn with_previous(l: Line, before: Sheet, c: customer::Changeover) -> Line {
-    let first = c.first;
     let last = c.last;
     let mut s = sheet::with_number(before, b'p', c.generation as u64);
-    s = sheet::with_date(s, b'x', first);
     s = sheet::with_date(s, b'y', last);
     cli_texts::with_text(l, s, cli_texts::PREVIOUS)
 }

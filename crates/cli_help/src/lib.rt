@@ -207,9 +207,10 @@ and 'stty echo' after.
            [--later]
 
 Enters a customer's next transport key.
-The key before it stays good for stamps from DATE to the end of the changeover
-(LENGTH in 'add'), and for none before DATE (E 1013). Until that is past no
-further one is taken (refused 12). The working keys stay as they are.
+The key before it stays good for stamps up to the end of the changeover (LENGTH
+in 'add'), those from before DATE too; for later ones it isn't (E 1013). Until
+that is past no further one is taken (refused 12). The working keys stay as
+they are.
 
   TABLE         the bank's file, made by setup
   DATE          today, yymmdd
@@ -249,10 +250,11 @@ and 'stty echo' after.
 
 Orders a new working key for a customer.
 The customer gets it with the reply to the next message that is accepted under
-the key before it. That one stays good for stamps from DATE to the end of the
-changeover (LENGTH in 'add'), and for none before DATE (E 1014). Until that is
-past no further one is made (refused 12). Order none for a customer who won't
-send a file in that time: no reply could bring the key.
+the key before it. That one stays good for stamps up to the end of the
+changeover (LENGTH in 'add'), those from before DATE too; for later ones it
+isn't (E 1014). Until that is past no further one is made (refused 12). Order
+none for a customer who won't send a file in that time: no reply could bring
+the key.
 
   TABLE         the bank's file, made by setup
   DATE          today, yymmdd
@@ -474,5 +476,5 @@ Exit status  0  served, and every reply is K
 }
 
 pub fn version() -> bool {
-    say::out(b"lentilpot 1.2\n")
+    say::out(b"lentilpot 1.3\n")
 }

@@ -235,11 +235,11 @@ Mend the sending program and send anew
 Mend the sending program and send anew
 1012 the version is too old|: it is ~A, the floor is ~B (and 111 to 119 are never taken)|: renew the sending program
 1013 the transport key of that generation isn't valid on the stamp's date|: names transport key ~t|: \
-make the file anew with the current key (the previous one is good for stamps from the new one's first day to the changeover's last, and \
-for none before); the bank sees the generations and their days with 'show'
+make the file anew with the current key (the previous one is good for stamps up to the changeover's last day, unless it was dropped); \
+the bank sees the generations and their days with 'show'
 1014 the working key of that generation isn't valid on the stamp's date|: names working key ~w|: \
-make the file anew with the current key (the previous one is good for stamps from the new one's first day to the changeover's last, and \
-for none before); the bank sees the generations and their days with 'show'
+make the file anew with the current key (the previous one is good for stamps up to the changeover's last day, unless it was dropped); \
+the bank sees the generations and their days with 'show'
 1015 the stamp's date is too old (more than five banking days)||: look at the sender's clock; make the file anew
 1016 the stamp's date is after today||: look at the sender's clock; make the file anew
 1017 the one-time key was used before|: it is held already|: was it sent twice? the first one counts; if not, make the file anew
@@ -272,7 +272,7 @@ more than blanks follows the message in its last record. Mend the sending progra
 3001 ~c ~d  ||
 3002 , line ~l, byte ~b: ||
 3003 ; held: ~g||
-3004 , and ~p as the previous one from ~x to ~y||
+3004 , and ~p as the previous one up to ~y||
 3005 . Customer ~i qualifier ~q||
 3006 . Identity ~i qualifier ~q||
 3007 , stamp ~j ~r ~s||

@@ -3,7 +3,7 @@
 //   a accepted     f field's name   k kind of message   p previous one   u in the SUO     z enclosed key
 //   b byte         g held one       l line              q qualifier      v in the VAR     A version
 //   c K or E       h its contents   m number of batch   r stamp's time   w working key    B bank's floor
-//   d code         i identity       n notice            s its number     x first day      C receiver's identity, D qualifier
+//   d code         i identity       n notice            s its number                      C receiver's identity, D qualifier
 //   e refused      j stamp's date   o number of reply   t transport key  y last day       E bank's identity, F qualifier
 //   G data type    H types allowed  I SUO's line        J faulty message's line           K VAR's line
 use crate::room::put_all;

@@ -19,7 +19,7 @@ fn obey_all(script: &[u8], t: &mut [u8], kept: &mut [u8], file: &mut [u8]) {
 }
 
 fn main() {
-    let mut script = [0u8; 131072];
+    let mut script = [0u8; 262144];
     let n = io::read_full(0, &mut script);
     let mut t = [0u8; 49152];
     let mut kept = [0u8; 49152];

@@ -401,7 +401,8 @@ mod tests {
     /// The planted faults that belong to R-2 are found without any cutting.
     #[test]
     fn each_planted_fault_of_r_2_is_found() {
-        for fault in Fault::ALL.into_iter().filter(|f| *f as u32 >= Fault::Collected501 as u32) {
+        let (first, last) = (Fault::Collected501 as u32, Fault::SuoReadTo161 as u32);
+        for fault in Fault::ALL.into_iter().filter(|f| (first..=last).contains(&(*f as u32))) {
             let front = &mut ModelFront::new(fault as u32);
             let differs = |f: GridFile| f.drive(front, f.bytes.len(), &mut Run::default()).is_err();
             assert!(files().any(differs), "{fault:?}");

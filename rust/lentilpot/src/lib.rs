@@ -54,7 +54,7 @@ use std::fmt;
 use std::io::{self, Read};
 
 /// The version of these functions and constants: LP_VERSION of the C header.
-pub const VERSION: &str = "1.2";
+pub const VERSION: &str = "1.3";
 /// The bytes of a table.
 pub const TABLE_SIZE: usize = 49_152;
 /// The longest reply, and the least room that a call asks for one.

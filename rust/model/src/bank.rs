@@ -1,5 +1,6 @@
 //! The bank's table as plain values, its bytes, and the calls that keep the table.
 use crate::calendar::{self, day, is_real_time, more_banking_days, plus, yymmdd};
+use crate::fields::{Field, TRANSPORT, WORKING};
 use crate::file::File;
 use crate::keys::{check_value, has_odd_parity, make_key, next_generation, transport_key, working_key_0};
 use crate::mac::is_field_character;
@@ -13,11 +14,30 @@ const HOLIDAYS: usize = 200;
 /// Stamps a customer's record has room for.
 pub const STAMPS: usize = 64;
 
+/// The two kinds of keys.
+#[derive(Clone, Copy, PartialEq, Eq, PartialOrd, Ord, Debug)]
+pub enum KeyKind {
+    Transport,
+    Working,
+}
+
+impl KeyKind {
+    pub const BOTH: [KeyKind; 2] = [KeyKind::Transport, KeyKind::Working];
+
+    /// The field in which a message names a generation of this kind.
+    pub fn field(self) -> Field {
+        match self {
+            KeyKind::Transport => TRANSPORT,
+            KeyKind::Working => WORKING,
+        }
+    }
+}
+
 #[derive(Clone, PartialEq, Eq, Debug)]
 pub struct Previous {
     pub generation: u32,
     pub key: u64,
-    /// The changeover's first and last day, yymmdd.
+    /// The changeover's first and last day, yymmdd. No answer asks for the first; the table keeps it.
     pub first: u32,
     pub last: u32,
 }
@@ -42,13 +62,14 @@ impl Keys {
         }
     }
 
-    /// Whether a message stamped on `date` may use this generation.
+    /// Whether a message stamped on `date` may use this generation: the current one whatever the date, the previous
+    /// one for any date up to its last day, while it is held. Today is not asked.
     pub fn serves(&self, generation: u32, date: u32) -> bool {
         if generation == self.generation {
             return true;
         }
         match &self.previous {
-            Some(p) => p.generation == generation && day(p.first) <= day(date) && day(date) <= day(p.last),
+            Some(p) => p.generation == generation && day(date) <= day(p.last),
             None => false,
         }
     }
@@ -97,6 +118,15 @@ pub struct Customer {
     pub transport: Keys,
     pub working: Keys,
     pub stamps: Vec<Stamp>,
+}
+
+impl Customer {
+    pub fn keys(&self, kind: KeyKind) -> &Keys {
+        match kind {
+            KeyKind::Transport => &self.transport,
+            KeyKind::Working => &self.working,
+        }
+    }
 }
 
 #[derive(Clone, PartialEq, Eq, Debug)]

@@ -2,6 +2,7 @@
 //! front with the model, and the shrinking of a case in which they differ.
 use crate::bank::{set_up, Bank, TABLE};
 use crate::file::{end, read, Answer, Fault, File, ROOM};
+use crate::previous::{self, Lost};
 use std::fmt::{self, Write as _};
 
 /// Bytes kept behind the table in its buffer, so that a table lent too long can be tried and a
@@ -164,13 +165,15 @@ pub struct Model {
     pub table: Vec<u8>,
     pub bank: Option<Bank>,
     pub files: Vec<Option<File>>,
+    /// Previous keys held no more since the table was set up, for generating and counting only.
+    pub lost: Vec<Lost>,
 }
 
 impl Model {
     pub fn new(start: &[u8]) -> Model {
         let mut table = start.to_vec();
         table.extend((0..MARGIN).map(|i| 0xB0 + i as u8));
-        Model { bank: Bank::decode(start), table, files: Vec::new() }
+        Model { bank: Bank::decode(start), table, files: Vec::new(), lost: Vec::new() }
     }
 
     pub fn file(&self, slot: usize) -> Option<&File> {
@@ -184,7 +187,17 @@ impl Model {
     }
 
     pub fn step(&mut self, step: &Step) -> Answer {
-        let answer = self.answer(step);
+        let before = self.bank.as_ref().map_or(Vec::new(), previous::all_held);
+        let mut answer = self.answer(step);
+        // What a call judged, it judged before the table lost a key by it.
+        for held in answer.judged.iter_mut().filter_map(|j| j.held.as_mut()) {
+            held.lost = self.lost.iter().filter(|l| l.who == held.who).cloned().collect();
+        }
+        match (&self.bank, &step.call) {
+            (_, Call::SetUp { .. }) if answer.refusal == 0 => self.lost.clear(),
+            (Some(bank), _) => self.lost.extend(previous::lost(before, bank)),
+            _ => (),
+        }
         let accepted = answer.reply.as_ref().is_some_and(|r| r[11] == b'K');
         let keeping = !matches!(step.call, Call::Read { .. } | Call::End { .. } | Call::Copy { .. });
         if answer.refusal == 0 && (accepted || keeping) {

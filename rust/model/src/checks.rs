@@ -1,5 +1,5 @@
 //! The checks of document 01 in their order, acceptance, and the replies they end in.
-use crate::bank::{Bank, Keys, Stamp, STAMPS};
+use crate::bank::{Bank, Customer, KeyKind, Previous, Stamp, STAMPS};
 use crate::calendar::day;
 use crate::des::decipher;
 use crate::fields::*;
@@ -108,11 +108,28 @@ fn stamp_fault(bank: &Bank, at: usize, chars: &[u8]) -> Option<u32> {
     None
 }
 
-fn serves(file: &File, keys: &Keys, generation: u32, date: u32) -> bool {
-    if file.fault == Fault::LastDayExclusive && generation != keys.generation {
-        return keys.serves(generation, date) && keys.previous.as_ref().is_some_and(|p| p.last != date);
+/// Whether the generation of this kind that a message names is good for its stamp's date; if not, 1013 or 1014.
+fn serves(file: &File, customer: &Customer, kind: KeyKind, chars: &[u8]) -> bool {
+    let (keys, generation) = (customer.keys(kind), generation(kind.field(), chars));
+    match &keys.previous {
+        Some(p) if p.generation == generation && file.fault != Fault::None => {
+            planted_previous(file, kind, p, date(chars))
+        }
+        _ => keys.serves(generation, date(chars)),
     }
-    keys.serves(generation, date)
+}
+
+/// The same of a previous key that is held, with a fault planted.
+fn planted_previous(file: &File, kind: KeyKind, previous: &Previous, date: u32) -> bool {
+    let [first, last, date, today] = [previous.first, previous.last, date, file.day].map(day);
+    match file.fault {
+        Fault::LastDayExclusive => date < last,
+        Fault::FirstDayTested => first <= date && date <= last,
+        Fault::FirstDayTestedOfTransport if kind == KeyKind::Transport => first <= date && date <= last,
+        Fault::LastDayUntested => true,
+        Fault::TodayTested => date <= last && today <= last,
+        _ => date <= last,
+    }
 }
 
 fn live_stamps(bank: &Bank, at: usize) -> impl Iterator<Item = &Stamp> {
@@ -207,10 +224,10 @@ fn esi_fault(bank: &mut Bank, file: &File, at: usize, chars: &[u8]) -> Option<u3
         return Some(n);
     }
     let customer = &bank.customers[at];
-    if !serves(file, &customer.transport, generation(TRANSPORT, chars), date(chars)) {
+    if !serves(file, customer, KeyKind::Transport, chars) {
         return Some(1013);
     }
-    if !serves(file, &customer.working, generation(WORKING, chars), date(chars)) {
+    if !serves(file, customer, KeyKind::Working, chars) {
         return Some(1014);
     }
     let key = customer.working.held(generation(WORKING, chars)).expect("it serves");
@@ -280,9 +297,8 @@ fn frame_fault(bank: &mut Bank, file: &File, frame: &Frame, at: usize, suo: &[u8
         return Some(code(n));
     }
     let customer = &bank.customers[at];
-    let transport =
-        serves(file, &customer.transport, generation(TRANSPORT, suo), date(suo)) && frame.one_time_key.is_some();
-    let working = serves(file, &customer.working, generation(WORKING, suo), date(suo));
+    let transport = serves(file, customer, KeyKind::Transport, suo) && frame.one_time_key.is_some();
+    let working = serves(file, customer, KeyKind::Working, suo);
     if file.fault == Fault::OrderOfTwoChecks && !working {
         return Some(code(1014));
     }

@@ -1,8 +1,9 @@
-//! How often each notice, each field named by one, each refusal and each sentence of R-2 came up.
+//! How often each notice, each field named by one, each refusal and each sentence of came up.
 use crate::case::{Call, Step};
 use crate::fields::{Kind, COMPARED, FIELDS, NOTICE};
 use crate::file::Answer;
 use crate::newer;
+use crate::previous;
 use crate::together::{Watched, ESI, FRAME};
 use std::collections::BTreeMap;
 
@@ -25,6 +26,8 @@ pub struct Counts {
     pub told: BTreeMap<(Kind, u32, &'static str), u64>,
     /// What of R-2 the messages judged have shown.
     pub newer: BTreeMap<String, u64>,
+    /// What of R-3 they have shown.
+    pub previous: BTreeMap<String, u64>,
     /// Accepted calls by name.
     pub calls: BTreeMap<&'static str, u64>,
 }
@@ -52,6 +55,9 @@ impl Counts {
         *self.calls.entry(call).or_default() += 1;
         for shown in answer.judged.iter().flat_map(|j| newer::shown(j, matches!(step.call, Call::End { .. }))) {
             *self.newer.entry(shown).or_default() += 1;
+        }
+        for shown in answer.judged.iter().flat_map(previous::shown) {
+            *self.previous.entry(shown).or_default() += 1;
         }
         let Some(reply) = &answer.reply else { return };
         let code: u32 = String::from_utf8_lossy(&reply[12..16]).parse().expect("a code");
@@ -133,6 +139,7 @@ impl Counts {
             }
         }
         out.extend(newer::all().into_iter().filter(|what| !self.newer.contains_key(what)));
+        out.extend(previous::all().into_iter().filter(|what| !self.previous.contains_key(what)));
         out
     }
 
@@ -171,6 +178,10 @@ impl Counts {
         println!("longer messages and their versions:");
         for what in newer::all() {
             println!("  {what:<64}{:>8}", self.newer.get(&what).copied().unwrap_or(0));
+        }
+        println!("previous keys:");
+        for what in previous::all() {
+            println!("  {what:<88}{:>8}", self.previous.get(&what).copied().unwrap_or(0));
         }
         println!("refusals:");
         for n in 1..=12 {

@@ -3,6 +3,7 @@ use crate::bank::Bank;
 use crate::checks;
 use crate::fields::*;
 use crate::mac::{internal_code, Method};
+use crate::previous::Held;
 use crate::reply::ReplyKind;
 use crate::together::{self, Watched};
 use std::collections::VecDeque;
@@ -39,10 +40,14 @@ pub enum Fault {
     VersionBetweenTaken = 20,
     RestCutJudged = 21,
     SuoReadTo161 = 22,
+    FirstDayTested = 23,
+    FirstDayTestedOfTransport = 24,
+    LastDayUntested = 25,
+    TodayTested = 26,
 }
 
 impl Fault {
-    pub const ALL: [Fault; 22] = [
+    pub const ALL: [Fault; 26] = [
         Fault::OrderOfTwoChecks,
         Fault::QualifierLeftOut,
         Fault::StampForgottenAtDayChange,
@@ -65,6 +70,10 @@ impl Fault {
         Fault::VersionBetweenTaken,
         Fault::RestCutJudged,
         Fault::SuoReadTo161,
+        Fault::FirstDayTested,
+        Fault::FirstDayTestedOfTransport,
+        Fault::LastDayUntested,
+        Fault::TodayTested,
     ];
 
     pub fn numbered(n: u32) -> Fault {
@@ -85,6 +94,8 @@ pub struct Came {
 pub struct Judged {
     pub floor: u32,
     pub came: Vec<Came>,
+    /// The sender's keys just before, where a verdict was given and it is a customer.
+    pub held: Option<Held>,
     pub reply: Vec<u8>,
 }
 
@@ -268,9 +279,10 @@ impl File {
                 if let Some(seen) = &mut self.watch {
                     seen.push(together::watched_esi(bank, &came.message));
                 }
+                let held = Held::by_sender(bank, &came.message);
                 let (reply, accepted) = checks::esi(bank, self, &came.message);
                 self.place = if accepted { Place::Outside(false) } else { Place::Closed };
-                Some(self.told(bank, vec![came], reply))
+                Some(self.told(bank, vec![came], held, reply))
             }
             Kind::Suo => {
                 let one_time_key = checks::one_time_key(bank, self, &came.message);
@@ -286,15 +298,16 @@ impl File {
                     let watched = together::watched_frame(bank, self, &frame, &came.message);
                     self.watch.iter_mut().for_each(|seen| seen.push(watched.clone()));
                 }
+                let held = Held::by_sender(bank, &frame.suo);
                 let reply = checks::frame(bank, self, &frame, &came.message);
-                Some(self.told(bank, vec![frame.suo_came(), came], reply))
+                Some(self.told(bank, vec![frame.suo_came(), came], held, reply))
             }
         }
     }
 
     /// Notes what a reply is given to.
-    fn told(&mut self, bank: &Bank, came: Vec<Came>, reply: Vec<u8>) -> Vec<u8> {
-        self.judged.push(Judged { floor: bank.floor, came, reply: reply.clone() });
+    fn told(&mut self, bank: &Bank, came: Vec<Came>, held: Option<Held>, reply: Vec<u8>) -> Vec<u8> {
+        self.judged.push(Judged { floor: bank.floor, came, held, reply: reply.clone() });
         reply
     }
 
@@ -302,7 +315,7 @@ impl File {
     fn without_var(&mut self, bank: &Bank) -> Vec<u8> {
         let frame = self.frame.take().expect("a frame is open");
         let reply = checks::bare(bank, self, ReplyKind::Pte, code(1024));
-        self.told(bank, vec![frame.suo_came()], reply)
+        self.told(bank, vec![frame.suo_came()], None, reply)
     }
 
     /// What the end of the file itself settles, after its last record.
@@ -322,7 +335,7 @@ impl File {
                     Kind::Var => return self.complete(bank, came),
                 };
                 let reply = checks::bare(bank, self, reply_kind, code(1032));
-                Some(self.told(bank, vec![came], reply))
+                Some(self.told(bank, vec![came], None, reply))
             }
             Place::InData => Some(self.without_var(bank)),
             Place::BeforeEsi | Place::Outside(_) | Place::Closed => None,

@@ -1,7 +1,7 @@
 //! Cases from a seed: banks, good and damaged files, cuts into reads, and calls in between.
 //! The maker runs the model as it goes, so that later messages know the keys and stamps that
 //! earlier ones left behind.
-use crate::bank::{padded, who, Bank, Customer, Keys, Previous, Stamp, TABLE};
+use crate::bank::{padded, who, Bank, Customer, KeyKind, Keys, Previous, Stamp, TABLE};
 use crate::calendar::{day, yymmdd, Day, LAST};
 use crate::case::{Call, Case, Model, Step};
 use crate::customer::{self, put, seal, Wish};
@@ -9,6 +9,7 @@ use crate::fields::*;
 use crate::file::Answer;
 use crate::keys::{check_value, next_generation, set_parity, transport_key};
 use crate::mac::{hex16, Method};
+use crate::previous::Lost;
 
 /// splitmix64.
 #[derive(Clone)]
@@ -84,7 +85,8 @@ fn time(d: &mut Dice) -> u32 {
 }
 
 fn generate_keys(d: &mut Dice, today: u32, changeover: usize) -> Keys {
-    let generation = d.below(10) as u32;
+    // Often the one that follows two others.
+    let generation = if d.chance(15) { 1 } else { d.below(10) as u32 };
     let previous = if generation > 0 && d.chance(changeover) {
         let before = if generation == 1 { d.pick(&[0, 9]) } else { generation - 1 };
         let first = shifted(today, -d.between(0, 12));
@@ -942,14 +944,8 @@ impl Maker {
         };
         let mut wish = self.wish(customer);
         let damaged = !p.tour && self.d.chance(45);
-        if let Some(c) = self.bank().and_then(|b| b.customers.get(customer?)).filter(|_| p.tour) {
-            wish.working = c.working.generation;
-            wish.working_key = c.working.key;
-            wish.transport = c.transport.generation;
-            wish.transport_key = c.transport.key;
-            wish.date = self.today();
-            wish.version = wish.version.max(120);
-            wish.request = if c.working.in_changeover(self.today()) { b'2' } else { b'1' };
+        if p.tour {
+            self.tour(&mut wish, customer);
         }
         let harms = if damaged { self.d.pick(&[0, 1, 1, 1, 2, 3]) } else { 0 };
         for _ in 0..harms {
@@ -1027,6 +1023,29 @@ impl Maker {
         p.unread.extend(out);
     }
 
+    /// What a tour asks for: a new key, the end of its changeover, and so on. Now and then it still uses the key that
+    /// was changed within the file, or one that is held no more, stamped today or before.
+    fn tour(&mut self, wish: &mut Wish, customer: Option<usize>) {
+        let today = self.today();
+        let Some(c) = self.bank().and_then(|b| b.customers.get(customer?)).cloned() else { return };
+        KeyKind::BOTH.into_iter().for_each(|k| name_key(wish, k, c.keys(k).generation, c.keys(k).key));
+        wish.date = today;
+        wish.version = wish.version.max(120);
+        wish.request = if c.working.in_changeover(today) { b'2' } else { b'1' };
+        let lost = self.lost_by(&c.who).into_iter().filter(|l| l.kind == KeyKind::Working).map(|l| l.previous);
+        let before: Vec<Previous> = c.working.previous.into_iter().chain(lost).collect();
+        if !before.is_empty() && self.d.chance(30) {
+            let p = self.d.pick(&before);
+            name_key(wish, KeyKind::Working, p.generation, p.key);
+            wish.date = shifted(today, -self.d.between(0, 3));
+        }
+    }
+
+    /// A customer's previous keys that are held no more.
+    fn lost_by(&self, who: &[u8; 25]) -> Vec<Lost> {
+        self.model.lost.iter().filter(|l| l.who == *who).cloned().collect()
+    }
+
     /// Calls made between SUO's end and VAR (readings 41 and 42).
     fn scenario(&mut self, which: i64, wish: &mut Wish, customer: Option<usize>) -> Option<Call> {
         let today = self.today();
@@ -1083,6 +1102,7 @@ impl Maker {
     fn wish(&mut self, customer: Option<usize>) -> Wish {
         let known =
             customer.and_then(|at| self.bank().and_then(|b| b.customers.get(at).map(|c| (b.clone_head(), c.clone()))));
+        let lost = known.as_ref().map_or(Vec::new(), |(_, c)| self.lost_by(&c.who));
         let d = &mut self.d;
         let number = d.pick(&[0, 1, 999, 500]);
         let at = time(d);
@@ -1129,20 +1149,23 @@ impl Maker {
         w.method = d.pick(&[Method::Skh, Method::Skh, Method::Ske]);
         w.one_time_key = key(d);
         if let Some((bank, c)) = &known {
-            if d.chance(18) {
-                if let Some(prev) = &c.transport.previous {
-                    w.transport = prev.generation;
-                    w.transport_key = prev.key;
-                    within(d, &mut w, prev, bank.day);
+            for kind in KeyKind::BOTH {
+                let used = d.chance(25);
+                if let Some(prev) = c.keys(kind).previous.as_ref().filter(|_| used) {
+                    name_key(&mut w, kind, prev.generation, prev.key);
+                    up_to_last(d, &mut w, prev, bank.day);
                 }
             }
-            if d.chance(25) {
-                if let Some(prev) = &c.working.previous {
-                    w.working = prev.generation;
-                    w.working_key = prev.key;
-                    within(d, &mut w, prev, bank.day);
-                }
+            // It may be late with a change, or have the generation wrong.
+            if d.chance(6) {
+                let kind = d.pick(&KeyKind::BOTH);
+                previous_at_an_edge(d, &mut w, c, kind, bank.day);
             }
+        }
+        // Nor may it know yet that a key is held no more.
+        if !lost.is_empty() && d.chance(15) {
+            let Lost { kind, previous, .. } = d.pick(&lost);
+            name_key(&mut w, kind, previous.generation, previous.key);
         }
         w
     }
@@ -1162,31 +1185,19 @@ impl Maker {
                 }
             }
             3 => {
-                w.transport = d.below(10) as u32;
+                w.transport = some_generation(d);
                 if let Some(k) = c.as_ref().and_then(|c| c.transport.held(w.transport)) {
                     w.transport_key = k;
                 }
             }
             4 => {
-                w.working = d.below(10) as u32;
+                w.working = some_generation(d);
                 if let Some(k) = c.as_ref().and_then(|c| c.working.held(w.working)) {
                     w.working_key = k;
                 }
             }
-            5 => {
-                if let Some(prev) = c.as_ref().and_then(|c| c.transport.previous.clone()) {
-                    w.transport = prev.generation;
-                    w.transport_key = prev.key;
-                    w.date = edge(d, &prev);
-                }
-            }
-            6 => {
-                if let Some(prev) = c.as_ref().and_then(|c| c.working.previous.clone()) {
-                    w.working = prev.generation;
-                    w.working_key = prev.key;
-                    w.date = edge(d, &prev);
-                }
-            }
+            5 => c.iter().for_each(|c| previous_at_an_edge(d, w, c, KeyKind::Transport, today)),
+            6 => c.iter().for_each(|c| previous_at_an_edge(d, w, c, KeyKind::Working, today)),
             7 => match d.below(4) {
                 0 => w.receiver = who("003701234568", ""),
                 1 => w.receiver[24] = b'X',
@@ -1218,8 +1229,8 @@ impl Maker {
             },
             12 => w.working_key = key(d),
             13 => {
-                w.transport = d.below(10) as u32;
-                w.working = d.below(10) as u32;
+                w.transport = some_generation(d);
+                w.working = some_generation(d);
             }
             14 | 15 => {
                 let used: Vec<u64> = c.iter().flat_map(|c| c.stamps.iter().filter_map(|s| s.one_time_key)).collect();
@@ -1591,10 +1602,21 @@ fn cut_at(d: &mut Dice, layout: usize, length: usize) -> usize {
     }
 }
 
-/// Moves a stamp's date into a changeover, mostly.
-fn within(d: &mut Dice, w: &mut Wish, prev: &Previous, today: u32) {
-    if d.chance(80) && day(w.date) < day(prev.first) {
-        w.date = prev.first;
+/// Puts a generation, and the key the customer believes in, into a wish.
+fn name_key(w: &mut Wish, kind: KeyKind, generation: u32, key: u64) {
+    match kind {
+        KeyKind::Transport => (w.transport, w.transport_key) = (generation, key),
+        KeyKind::Working => (w.working, w.working_key) = (generation, key),
+    }
+}
+
+/// Moves a stamp's date to one that a previous key is good for, mostly; before its first day where that is not long ago.
+fn up_to_last(d: &mut Dice, w: &mut Wish, prev: &Previous, today: u32) {
+    let lately = day(prev.first) >= day(shifted(today, -5));
+    match d.below(10) {
+        0..=3 if lately => w.date = shifted(prev.first, -d.between(1, 4)),
+        4 | 5 => w.date = prev.first,
+        _ => (),
     }
     if d.chance(80) && day(w.date) > day(prev.last) {
         w.date = prev.last;
@@ -1606,11 +1628,36 @@ fn within(d: &mut Dice, w: &mut Wish, prev: &Previous, today: u32) {
 
 /// A date at an edge of a changeover.
 fn edge(d: &mut Dice, prev: &Previous) -> u32 {
-    match d.below(5) {
+    match d.below(6) {
         0 => shifted(prev.first, -1),
         1 => prev.first,
         2 | 3 => prev.last,
         _ => shifted(prev.last, 1),
+    }
+}
+
+/// Uses a previous key at an edge of its changeover, perhaps with the other kind's; now and then the generation named is
+/// the other one of 0 and 9.
+fn previous_at_an_edge(d: &mut Dice, w: &mut Wish, c: &Customer, kind: KeyKind, today: u32) {
+    let both = d.chance(40);
+    for k in KeyKind::BOTH.into_iter().filter(|k| both || *k == kind) {
+        let Some(prev) = &c.keys(k).previous else { continue };
+        let swapped = matches!(prev.generation, 0 | 9) && d.chance(40);
+        let generation = if swapped { 9 - prev.generation } else { prev.generation };
+        name_key(w, k, generation, prev.key);
+        w.date = edge(d, prev);
+    }
+    let ahead = day(w.date) > day(today);
+    if (both && d.chance(30)) || (ahead && d.chance(80)) {
+        w.date = today;
+    }
+}
+
+/// A generation, often one of the two that 1 follows.
+fn some_generation(d: &mut Dice) -> u32 {
+    match d.below(4) {
+        0 => d.pick(&[0, 9]),
+        _ => d.below(10) as u32,
     }
 }
 
@@ -1795,6 +1842,35 @@ mod tests {
                 cut.iter().all(|n| (11..length).contains(n)) && [layout - 1, layout].iter().all(|n| cut.contains(n))
             );
         }
+    }
+
+    /// Under a previous key of either kind, both its edges and the days beside them come up, and other generations.
+    #[test]
+    fn previous_keys_are_used_at_their_edges() {
+        let d = &mut Dice(8);
+        let bank = generate_bank(&mut Dice(4));
+        let previous = |generation| Previous { generation, key: 1, first: 941017, last: 941020 };
+        let keys = |generation| Keys { generation: 1, key: 2, previous: Some(previous(generation)) };
+        let base = generate_customer(d, 941021, who("A", ""));
+        let c = Customer { transport: keys(9), working: keys(0), ..base };
+        let none = Wish { transport: 1, working: 1, ..Wish::of(&bank, &c, 1, 1) };
+        let mut seen = std::collections::BTreeSet::new();
+        for _ in 0..2000 {
+            for kind in KeyKind::BOTH {
+                let mut w = none.clone();
+                previous_at_an_edge(d, &mut w, &c, kind, 941021);
+                seen.insert((w.transport, w.working, w.date));
+                let mut w = Wish { date: 941021, ..none.clone() };
+                up_to_last(d, &mut w, &previous(0), 941021);
+                seen.insert((1, 0, w.date));
+            }
+        }
+        for date in [941016, 941017, 941020, 941021] {
+            for (transport, working) in [(9, 1), (0, 1), (1, 0), (1, 9), (9, 0), (0, 9)] {
+                assert!(seen.contains(&(transport, working, date)), "{transport} {working} {date}");
+            }
+        }
+        assert!(seen.contains(&(1, 0, 941013)) && seen.iter().all(|(_, _, date)| *date <= 941021));
     }
 
     /// First records of every length up to seven, with each of the four ends.

@@ -15,9 +15,10 @@ pub mod generate;
 pub mod keys;
 pub mod mac;
 pub mod newer;
+pub mod previous;
 pub mod reply;
 pub mod size;
 pub mod together;
 
-pub use bank::{set_up, Bank, Customer, Keys, Previous, Stamp, TABLE};
+pub use bank::{set_up, Bank, Customer, KeyKind, Keys, Previous, Stamp, TABLE};
 pub use file::{end, read, Answer, File};

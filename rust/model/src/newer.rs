@@ -383,7 +383,7 @@ mod tests {
         let reply = |text: &[u8]| [text, &[b' '; 301][..]].concat();
         let judged = |var: Came, text: &[u8]| {
             let came = vec![came(Kind::Suo, &[&suo[..128], b"", &suo[128..]], 130), var];
-            shown(&Judged { floor: 120, came, reply: reply(text) }, true)
+            shown(&Judged { floor: 120, came, held: None, reply: reply(text) }, true)
         };
         let taken = judged(came(Kind::Var, &[&var], 162), b">>PTE317120K1001");
         let expected = [

@@ -3,7 +3,7 @@
 use model::case::{compare, shrink, Case, Model, ModelFront};
 use model::count::Counts;
 use model::file::Fault;
-use model::{generate, newer};
+use model::{generate, newer, previous};
 
 #[test]
 fn the_model_agrees_with_itself() {
@@ -39,7 +39,7 @@ fn every_field_of_every_message_is_told_of() {
     assert!(counts.untold().is_empty(), "{:?}", counts.untold());
 }
 
-/// Each notice, field and refusal comes up, and each sentence of R-2 with both sides of its bounds.
+/// Each notice, field and refusal comes up, and each sentence of with both sides of its bounds.
 #[test]
 fn nothing_never_comes_up() {
     let mut counts = Counts::default();
@@ -51,8 +51,26 @@ fn nothing_never_comes_up() {
         }
     }
     assert!(counts.missing().is_empty(), "{:?}", counts.missing());
-    let all = newer::all();
-    assert!(counts.newer.keys().all(|shown| all.contains(shown)), "{:?}", counts.newer);
+    for (all, counted) in [(newer::all(), &counts.newer), (previous::all(), &counts.previous)] {
+        assert!(counted.keys().all(|shown| all.contains(shown)), "{counted:?}");
+    }
+}
+
+/// A stamp before the first day is taken, under each kind of key, within a few hundred cases.
+#[test]
+fn stamps_before_the_first_day_come_up_soon() {
+    let mut counts = Counts::default();
+    for case in (1..400).map(generate::case) {
+        let mut model = Model::new(&case.start);
+        for step in &case.steps {
+            let answer = model.step(step);
+            counts.see(step, &answer);
+        }
+    }
+    for kind in ["transport", "working"] {
+        let what = format!("previous {kind} key stamped before the first day: taken");
+        assert!(counts.previous.keys().any(|shown| shown.ends_with(&what)), "{:?}", counts.previous);
+    }
 }
 
 #[test]

@@ -9,7 +9,7 @@ unfolding previousGood
 returns c = rw (c .enum-told .given .1)
 
 returns-2 : tie.Need-returns-2
-returns-2 c = rw (c .before .before .p .given .1) (c .is-within .ensures)
+returns-2 c = rw (c .before .before .p .given .1) (c .is-up-to-last .ensures)
 
 pub is-previous-good-spec : {M : Type 1} → statement M
 is-previous-good-spec =

@@ -9,6 +9,9 @@ use model::keys::{check_value, set_parity, transport_key};
 use model::mac::Method;
 use model::Bank;
 
+#[path = "previous.rs"]
+mod previous;
+
 const PART1: u64 = 0xF18C57209492FEB3;
 const PART2: u64 = 0xC71A7502021A022F;
 const TODAY: u32 = 941020;
@@ -50,6 +53,7 @@ pub fn script() -> Vec<u8> {
     m.full();
     m.spoiled();
     m.last_days();
+    m.previous();
     m.reached();
     m.script
 }
@@ -935,6 +939,8 @@ impl Maker {
         self.wished("the previous key used, request 0: the current key enclosed", FIRST, |w| before(w, b'0'), "K1002");
         self.wished("the previous key used, request 1: the current key enclosed", FIRST, |w| before(w, b'1'), "K1003");
         self.wished("the previous key used, request 2", FIRST, |w| before(w, b'2'), "K1037");
+        // The table goes back, so that what follows has the same sums as before R-3.
+        self.line("keep");
         self.wished(
             "the previous key, stamped before its first day",
             FIRST,
@@ -942,8 +948,9 @@ impl Maker {
                 before(w, b'0');
                 w.date = 941018
             },
-            "E1014",
+            "K1002",
         );
+        self.line("back");
         ask(self, "the changeover broken off", FIRST, b'2', "K1036");
         self.wished("the previous key is dropped, and no checksum", FIRST, |w| before(w, b'0'), "E1014");
         ask(self, "nothing to break off", FIRST, b'2', "K1037");
@@ -964,12 +971,14 @@ impl Maker {
             },
             "K1002",
         );
+        self.line("keep");
         self.wished(
             "the previous transport key, stamped before its first day",
             FIRST,
             |w| (w.transport, w.transport_key, w.date) = (old.generation, old.key, 941018),
-            "E1013",
+            "K1001",
         );
+        self.line("back");
         let mut bank = self.bank();
         bank.customers[2].leave = false;
         self.become_bank(&bank);
