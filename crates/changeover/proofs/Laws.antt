@@ -6,9 +6,9 @@ use Prim.Native.Nat.{ℕ, _+_, _≤_}
 use native.Mathlib.Omega.{arith}
 use borrow.Author.Tests.{le-leb, eq-eqb, ne-eqb, ltb-false}
 use lib.Dec.{eqb, ltb, leb}
-use Rattle.ground.specs.Choice.{either, fails, pick}
+use Rattle.ground.specs.Choice.{both, either, fails, pick}
 use Rattle.ground.proofs.Choices.{left, right, join, decides, either-decides, picks, skips}
-use Rattle.ground.proofs.Bools.{fails-of, under}
+use Rattle.ground.proofs.Bools.{fails-of, under, either-false}
 use Rattle.calendar.specs.Dates.{realDate, isBefore, later}
 use Rattle.calendar.specs.declared.Date.{Date}
 use Rattle.calendar.specs.declared.CalendarDays.{CalendarDays}
@@ -171,11 +171,26 @@ after-change old key today days =
     let g = old .generation in
     skips _ _ _ (ne-eqb _ _ (next-differs g)) ∙ picks (eqb g g) (Is (old .key)) Missing (eq-eqb g g refl)
 
--- and good for any date up to the last day, whatever day the changeover began (document 02, R-3)
+-- ---- what is good after a change, and after the previous key was dropped (document 02, R-3)
+
+-- the new generation for any date, the one before it up to the last day, and none besides: a previous key that was held before is gone
+pub good-changed : (old : KeyPair) (generation key : ℕ) (today : Date) (days : CalendarDays) (g : ℕ) (date : Date)
+    → goodFor (changed old generation key today days) g date
+    ≡ either (eqb generation g) (both (eqb (old .generation) g) (fails (isBefore (later today days) date)))
+unfolding changed goodFor previousGood
+good-changed old generation key today days g date = refl
+
+-- so the generation before the change is good for any date up to the last day, whatever day the changeover began
 pub good-after-change : (old : KeyPair) (key : ℕ) (today : Date) (days : CalendarDays) (date : Date)
     → goodFor (changed old (nextGeneration (old .generation)) key today days) (old .generation) date
     ≡ fails (isBefore (later today days) date)
-unfolding changed goodFor previousGood
 good-after-change old key today days date =
     let g = old .generation in
-    either-decides _ _ (ne-eqb _ _ (next-differs g)) ∙ decides _ _ (eq-eqb g g refl)
+    good-changed old _ key today days g date ∙ either-decides _ _ (ne-eqb _ _ (next-differs g))
+    ∙ decides _ _ (eq-eqb g g refl)
+
+-- once the previous working key is dropped, the current generation is good for any date and no other for any
+pub good-dropped : (c : Customer) (g : ℕ) (date : Date)
+    → goodFor (withoutPrevious c .working) g date ≡ eqb (c .working .generation) g
+unfolding withoutPrevious withKeys goodFor previousGood
+good-dropped c g date = either-false _
