@@ -94,8 +94,8 @@ told_in receive "What is typed at '-' is seen on the screen, unless 'stty -echo'
 told_in setup "What is typed at '-' is seen on the screen"
 told_in show "'(past)' after a changeover: its last day is before the table's day"
 told_in show "'n of 64 held': so many stamps are not too old on the table's day"
-told_in key "and for none before DATE (E 1013)"
-told_in order "and for none before DATE (E 1014)"
+told_in key "those from before DATE too; for later ones it isn't (E 1013)"
+told_in order "those from before DATE too; for later ones it isn't (E 1014)"
 for text in "standard output is empty, unless a listing broke off in it" "install target/program/lentilpot /usr/local/bin"; do
     grep -qF -- "$text" joined || fail "docs/lentilpot.1 doesn't say '$text'"
 done
