@@ -26,8 +26,6 @@ use Rattle.changeover.specs.Changes.{changed, withKeys, withTransport, w
 use Rattle.changeover.specs.declared.Key.{Key}
 use Rattle.changeover.specs.declared.Key.the-variants.{Missing, Is}
 
--- ---- tests turned round
-
 -- ---- the parts of sound keys
 
 module _ (k : KeyPair) (s : soundKeys k ≡ true) where
