@@ -1,4 +1,5 @@
 -- Laws that belong to no one function.
 pub mod Odd
+pub mod Folds
 pub mod Laws
 pub mod Lent

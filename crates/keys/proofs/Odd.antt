@@ -2,13 +2,11 @@
 -- Assumes nothing.
 use mathlib.Core.Path.{_≡_, refl, sym, ap, _∙_}
 use mathlib.Core.Bool.{Bool, true, false}
-use Prim.Native.Nat.{ℕ, zero, suc, _+_, _-_, _*_, _/_, _%_, _^_, _≤_, _<_}
-use native.Mathlib.Nat.{pow-suc, pow-le-pow-right}
-use native.Mathlib.Numerals.{add-one}
+use Prim.Native.Nat.{ℕ, zero, suc, _+_, _*_, _/_, _%_, _^_, _<_}
+use native.Mathlib.Nat.{pow-suc}
 use native.Mathlib.Omega.{arith}
 use borrow.Author.Tests.{eqb-true, eq-eqb, ne-eqb}
-use lib.Dec.{eqb, lit<}
-use lib.Pow.{shr-shr}
+use lib.Dec.{eqb}
 use Rattle.ground.proofs.Choices.{left, right, join}
 use Rattle.keys.specs.Parity.{ones, parityByte, parityBytes, withParity, oddBytes, oddParity}
 
@@ -46,32 +44,6 @@ pub bytes-lt : (n x : ℕ) → parityBytes n x < 256 ^ n
 unfolding parityBytes
 bytes-lt zero x = omega arith
 bytes-lt (suc n) x = rw (pow-suc 256 n) (omega (arith, bytes-lt n (x / 256), byte-lt x))
-
--- the byte i from the top joins those above it
-pub bytes-step : (x i : ℕ) → i < 8
-    → parityBytes (i + 1) (x / 2 ^ (64 - 8 * (i + 1))) ≡ parityBytes i (x / 2 ^ (64 - 8 * i)) * 256 + parityByte
-    (x / 2 ^ (56 - 8 * i) % 256)
-unfolding parityBytes
-bytes-step x i h =
-    let k : 64 - 8 * (i + 1) ≡ 56 - 8 * i = omega arith in
-    let m : 56 - 8 * i + 8 ≡ 64 - 8 * i = omega arith in
-    let e : x / 2 ^ (56 - 8 * i) / 256 ≡ x / 2 ^ (64 - 8 * i) = shr-shr x (56 - 8 * i) 8 ∙ ap (λ (j : ℕ). x / 2 ^ j) m in
-    rw (k, add-one i, e)
-
--- after eight bytes
-pub bytes-done : (x i : ℕ) → i ≡ 8 → parityBytes i (x / 2 ^ (64 - 8 * i)) ≡ withParity x
-bytes-done x i e =
-    let z : x / 2 ^ (64 - 8 * 8) ≡ x = omega arith in
-    rw (e, z)
-
--- there is room for it
-pub room : (x i b : ℕ) → i < 8 → b < 256 → parityBytes i x * 256 + b < 2 ^ 64
-room x i b h g =
-    let l : 256 ^ i ≤ 256 ^ 7 = pow-le-pow-right (omega arith) {j = 7} (omega arith) in
-    omega (arith, bytes-lt i x)
-
-pub room-before : (x i : ℕ) → i < 8 → parityBytes i x * 256 < 2 ^ 64
-room-before x i h = omega (arith, room x i 0 h (lit< tt))
 
 bytes-odd : (n x : ℕ) → oddBytes n (parityBytes n x) ≡ true
 unfolding parityBytes oddBytes

@@ -1,12 +1,8 @@
 // Keys: parity, a transport key from its parts, check values, working key 0, generations, the key maker.
 ghost use mathlib.Core.Path.{_≡_};
-ghost use Prim.Native.Nat.{ℕ, _<_};
-ghost use lib.ListN.{getD};
-ghost use Rattle.keys.specs.Parity.{parityByte, withParity, oddParity};
+ghost use Rattle.keys.specs.Parity.{withParity, oddParity};
 ghost use Rattle.keys.specs.Keys.{combined, checkValue, workingKey0, nextGeneration};
 ghost use Rattle.keys.specs.Maker.{madeOf, clockValue, keyOf, nextSeed};
-
-mod parity;
 
 // The key maker: K and the seed V.
 pub struct KeyMaker {
@@ -20,31 +16,15 @@ pub struct Made {
     pub maker: KeyMaker,
 }
 
-fn wide(x: u8) -> u64
-    ensures { λ r. ⌜ (r ≡ x) × (r < 256) ⌝ }
-{
-    x as u64
-}
-
-// The eight bytes of x, highest first, each by a lent table of bytes with their parity.
-fn parity_by(t: &[u8; 256], x: u64) -> u64
-    requires { ⌜ ((b : ℕ) → b < 256 → getD (now t) b 0 ≡ parityByte b) ⌝ }
-    ensures { λ r. ⌜ r ≡ withParity x ⌝ }
-{
-    let mut r: u64 = 0;
-    let mut i: u64 = 0;
-    while i < 8 {
-        let b = ((x >> (56 - 8 * i)) % 256) as usize;
-        r = r * 256 + wide(t[b]);
-        i += 1;
-    }
-    r
-}
-
+// Three folds bring the eight bits of each byte into its lowest, which then says whether their count is odd; where it is even, the
+// lowest bit of the byte is turned. What comes down from the byte above stays in bits that the mask leaves out.
 pub fn with_parity(x: u64) -> u64
     ensures { λ r. ⌜ r ≡ withParity x ⌝ }
 {
-    parity_by(&parity::PARITY, x)
+    let four = x ^ (x >> 4);
+    let two = four ^ (four >> 2);
+    let one = two ^ (two >> 1);
+    x ^ (one & 0x0101010101010101) ^ 0x0101010101010101
 }
 
 pub fn has_odd_parity(x: u64) -> bool

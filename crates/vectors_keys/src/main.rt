@@ -1,4 +1,5 @@
-// The key vectors of document 001, appendix 3, and a key maker whose clock is carried round: one labelled line each.
+// The key vectors of document 001, appendix 3, a key maker whose clock is carried round, the parity of every byte in every place and of
+// every bit: one labelled line each.
 ghost use Prim.Native.Nat.{_≤_};
 
 fn digit(x: u64) -> u8 {
@@ -74,6 +75,38 @@ fn parities() {
     put_parity(b"36 in each byte, ", 0x3636363636363636);
 }
 
+// Thirty-two keys from the given one on, each byte 8 more than before, with their parity set.
+fn from_bytes(first: u64) {
+    let mut x = first;
+    let mut i: u32 = 0;
+    while i < 32 {
+        put(b"set: ", keys::with_parity(x), 0);
+        x = std::num::wrapping_add_u64(x, 0x0808080808080808);
+        i += 1;
+    }
+}
+
+// All 256 values in each of the eight places, beside other ones.
+fn every_byte() {
+    from_bytes(0x0001020304050607);
+    from_bytes(0x0102030405060700);
+    from_bytes(0x0203040506070001);
+    from_bytes(0x0304050607000102);
+    from_bytes(0x0405060700010203);
+    from_bytes(0x0506070001020304);
+    from_bytes(0x0607000102030405);
+    from_bytes(0x0700010203040506);
+}
+
+// The transport key of appendix 3 with each of its bits turned alone.
+fn every_bit() {
+    let mut i: u32 = 0;
+    while i < 64 {
+        put_parity(b"one bit turned, ", 0x379723239789FD9D ^ (1u64 << i));
+        i += 1;
+    }
+}
+
 fn generation(label: &[u8], g: u32) {
     put(label, keys::next_generation(g) as u64, 15);
 }
@@ -108,4 +141,6 @@ fn main() {
     parities();
     generations();
     maker();
+    every_byte();
+    every_bit();
 }
