@@ -27,7 +27,7 @@ fn reads(mac: &Mac) {
     }
 }
 
-fn checks(mac: &Mac) {
+pub fn checks(mac: &Mac) {
     const TURNS: u64 = 1000;
     let record = bank::records(81, 75, 5, b"\n");
     let mut works = vec![work("", || (0..TURNS).fold(0, |a, _| a ^ bank::digest(mac, &record, false)))];

@@ -35,6 +35,7 @@ fn main() {
         Some("big") => alone(&mac, 64, 1, WHOLE),
         Some("reads") => alone(&mac, 8, 32, 80),
         Some("bytes") => alone(&mac, 1, 1, 1),
+        Some("check") => reads::checks(&mac),
         _ => {
             cipher::tables();
             batches::tables(&mac);

@@ -23,6 +23,15 @@ export LENTILPOT_LIB
 strict() { cc -std=c99 -Wall -Wextra -Wpedantic -Werror -O2 -Iinclude "$@"; }
 fail() { echo "edge: $*" >&2; exit 1; }
 
+# ---- the archive for the small box has no table of parities (R-4), whole or in pieces of eight bytes
+
+awk 'BEGIN { for (b = 0; b < 256; b++) {
+        ones = 0
+        for (n = b; n > 0; n = int(n / 2)) ones += n % 2
+        printf "%02x%s", ones % 2 ? b : b % 2 ? b - 1 : b + 1, b % 8 == 7 ? "\n" : "" } }' >"$work/parities"
+{ [ "$(sed -n 1p "$work/parities")" = 0101020204040707 ] && [ "$(wc -l <"$work/parities")" -eq 32 ]; } || fail "the parities are counted wrongly"
+! od -An -v -tx1 "$LENTILPOT_LIB/libedge.a" | tr -d ' \n' | grep -qF -f "$work/parities" || fail "a table of parities is in libedge.a"
+
 # ---- the header and the Rust declarations
 
 strict rust/lentilpot/tests/known.c "$LENTILPOT_LIB/libedge.a" -o "$work/known"
