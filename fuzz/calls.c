@@ -230,24 +230,6 @@ uint32_t open_file(struct bank *b, struct file *f, const struct opening *o) {
     return 0;
 }
 
-static uint64_t hex_at(const uint8_t *text) {
-    uint64_t n = 0;
-    for (int i = 0; i < 16; i++) n = n << 4 | (uint64_t)(text[i] <= '9' ? text[i] - '0' : text[i] - 'A' + 10);
-    return n;
-}
-
-static uint64_t digits_at(const uint8_t *text, size_t n) {
-    uint64_t out = 0;
-    for (size_t i = 0; i < n; i++) out = out * 10 + (uint64_t)(text[i] - '0');
-    return out;
-}
-
-/* The key of a generation that is held, whatever the date. */
-static uint64_t key_of(const uint8_t *keys, uint32_t generation) {
-    if (keys[GENERATION] == generation) return number_at(keys + KEY, 8);
-    return keys[HELD] && keys[OLD_GENERATION] == generation ? number_at(keys + OLD_KEY, 8) : 0;
-}
-
 /* Kind, length and K or E agree; gives the code. */
 static uint32_t check_form(enum call c, const struct answer *a) {
     const uint8_t *r = a->reply;
@@ -290,10 +272,10 @@ static void check_accepted(enum call c, struct bank *b, const uint8_t *reply, ui
     if (FAULT == 17) b->table[at + STAMPS + 8 * (now[STAMP_COUNT] - 1u)] ^= 1;
     if (!now[STAMP_COUNT] || number_at(now + STAMPS + 8 * (now[STAMP_COUNT] - 1u), 8) != digits_at(reply + 87, 15))
         broken("the stamp of a reply with K isn't kept", call_names[c]);
-    if (hex_at(reply + 144) != mac(key_of(record + WORKING, reply[86] - '0'), reply, 144))
+    if (hex_at(reply + 144) != mac(key_held(record + WORKING, reply[86] - '0'), reply, 144))
         broken("the checksum of a reply with K", call_names[c]);
     if (reply[160] == '1' &&
-        decipher(key_of(record + TRANSPORT, reply[85] - '0'), hex_at(reply + 161)) != number_at(now + WORKING + KEY, 8))
+        decipher(key_held(record + TRANSPORT, reply[85] - '0'), hex_at(reply + 161)) != number_at(now + WORKING + KEY, 8))
         broken("the key enclosed isn't the current working key", call_names[c]);
 }
 

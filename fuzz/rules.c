@@ -47,7 +47,24 @@ uint32_t day_before(uint32_t date) {
 
 uint32_t next_generation(uint32_t generation) { return generation < 9 ? generation + 1 : 1; }
 
-static int field_character(uint8_t c) {
+uint64_t hex_at(const uint8_t *text) {
+    uint64_t n = 0;
+    for (int i = 0; i < 16; i++) n = n << 4 | (uint64_t)(text[i] <= '9' ? text[i] - '0' : text[i] - 'A' + 10);
+    return n;
+}
+
+uint64_t digits_at(const uint8_t *text, size_t n) {
+    uint64_t out = 0;
+    for (size_t i = 0; i < n; i++) out = out * 10 + (uint64_t)(text[i] - '0');
+    return out;
+}
+
+uint64_t key_held(const uint8_t *keys, uint32_t generation) {
+    if (keys[GENERATION] == generation) return number_at(keys + KEY, 8);
+    return keys[HELD] && keys[OLD_GENERATION] == generation ? number_at(keys + OLD_KEY, 8) : 0;
+}
+
+int field_character(uint8_t c) {
     return (c >= 'A' && c <= 'Z') || (c >= '0' && c <= '9') || (c && strchr(" %()*+,-./:;<=>", c));
 }
 

@@ -89,7 +89,14 @@ uint32_t in_order(uint32_t date); /* rises with the calendar */
 uint32_t days_later(uint32_t date, uint32_t days);
 uint32_t day_before(uint32_t date);
 
+/* What characters write: sixteen hex digits, decimal digits. */
+uint64_t hex_at(const uint8_t *text);
+uint64_t digits_at(const uint8_t *text, size_t n);
+
 uint32_t next_generation(uint32_t generation);
+/* The key of a generation that is held, whatever the date; 0 where none is. */
+uint64_t key_held(const uint8_t *keys, uint32_t generation);
+int field_character(uint8_t c);
 int is_name(const uint8_t *bytes, size_t identity, size_t qualifier);
 
 /* The customer's record, or null. */

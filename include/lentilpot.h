@@ -1,10 +1,13 @@
 /*
- * Lentilpot for a box: the receiving front end for payment files under PATU 1.22.
+ * Lentilpot for a box: the receiving front end for payment files under PATU 1.22; and, for a customer's box, the desk, which checks what
+ * the bank sends back.
  *
  * To build, at the root of the repository, with the Rattle kit:
  *     rt staticlib edge                                                  proves the library, writes target/staticlib/libedge.a
  *     cc -std=c99 -Iinclude box.c target/staticlib/libedge.a -o box      compiles and links; nothing else is needed
  * On a processor that isn't x86-64: sh scripts/nativelib edge, and target/native/libedge.a.
+ * The desk's calls (the last section) are in an archive of their own: rt staticlib desk_edge, target/staticlib/libdesk_edge.a. A box
+ * links the archive that it calls; both may be linked together.
  *
  * A bank's table is 49,152 bytes that the box keeps (docs/FORMAT.md has every byte); a file on its way is a session of
  * lp_session_size() bytes. Every call works on the memory that it is lent and keeps none of it: no call allocates, waits,
@@ -50,8 +53,8 @@
 extern "C" {
 #endif
 
-#define LP_VERSION "1.3"       /* of these functions and constants */
-#define LP_VERSION_NUMBER 103  /* the same for #if: 100 times the first number, and the second */
+#define LP_VERSION "1.4"       /* of these functions and constants */
+#define LP_VERSION_NUMBER 104  /* the same for #if: 100 times the first number, and the second */
 
 #define LP_TABLE_SIZE 49152  /* the bytes of a table */
 #define LP_SESSION_SIZE 472  /* the bytes of a session: what lp_session_size() says */
@@ -379,6 +382,203 @@ static inline const char *lp_refusal_words(uint32_t refusal) {
     case LP_REFUSED_ARGUMENT: return "an argument is outside its limits";
     case LP_REFUSED_CHANGEOVER: return "the changeover from the previous key is not past";
     default: return "no refusal has this number";
+    }
+}
+
+/*
+ * ---- The desk: on the customer's side, what the bank sends back is checked (libdesk_edge.a).
+ *
+ * A desk is 88 bytes that the customer's box keeps: for one customer at one bank its transport and working keys, of each kind the current
+ * one and perhaps the one before it. What was sent is 100 bytes, made from the messages themselves, whatever software wrote them.
+ * docs/FORMAT.md has every byte of both.
+ *
+ * To check a file's replies: lp_sent_of for its ESI and for each SUO with its VAR; then lp_check_esi for the bank's ESI and lp_check_pte
+ * for each PTE, in the order in which they came. Which reply goes with which message is the box's business: PTEs come in the order of the
+ * batches, but one with 1023 (records outside a batch) belongs to none. samples/desk.c does it for whole files.
+ *
+ *     SAVE THE DESK'S BYTES BEFORE THE REPLY IS THROWN AWAY. An enclosed key is kept in them, and once the changeover is past the bank takes
+ *     no other.
+ *
+ * A finding says whether the reply is the bank's answer to this message. The bank's own word, K or E with its code, is told apart from it
+ * and also where the desk refuses: an E that passes is a refusal by the bank. A batch is accepted only if its PTE says K and passes.
+ *
+ * What no desk can see. Fields 18 to 21 lie outside the checksum: of 20 and 21 nothing is checked at all, and a key enclosed by a forger
+ * passes its parity once in 256 (each of its eight bytes is odd by chance, 2^-8) and is kept. So compare the new key's check value with
+ * the bank by telephone after a change: lp_held_values tells it. An enclosed key that was taken away isn't missed before replies under it
+ * get 3020. A reply without a checksum never passes, for nobody can see who wrote it: those that don't repeat the message (above, at
+ * LP_AT_) have none, nor have those to a message whose working key the bank doesn't hold.
+ */
+#define LP_HELD_SIZE 88   /* the bytes of a desk: what lp_held_size() says */
+#define LP_SENT_SIZE 100  /* the bytes of what was sent: what lp_sent_size() says */
+
+/* The numbers that a check tells beside its finding. */
+#define LP_WORDS 3        /* how many */
+#define LP_WORD_FIELD 0   /* the field at fault: ten times its number and the part, 170 for 17 and 81 for 8.1; 0 for none: lp_field_name */
+#define LP_WORD_LETTER 1  /* the bank's letter, 'K' or 'E'; 0 where it can't be read */
+#define LP_WORD_CODE 2    /* the bank's code, LP_CODE_... ; 0 where it can't be read */
+
+/* The numbers that lp_held_values tells: of each kind the current key's generation, 0 to 9, and its check value, 24 bits. */
+#define LP_VALUES 4                      /* how many */
+#define LP_VALUE_TRANSPORT_GENERATION 0
+#define LP_VALUE_TRANSPORT_CHECK 1       /* in six hex digits, "%06X", as the bank's 'lentilpot show' prints it */
+#define LP_VALUE_WORKING_GENERATION 2
+#define LP_VALUE_WORKING_CHECK 3         /* likewise */
+
+/* The findings: document 001's codes of the customer's side. */
+#define LP_PASSES 0
+#define LP_FINDING_FIELD_FORMAT 3010           /* names the field; a blank checksum is this on field 17, or on a lower one */
+#define LP_FINDING_FIELD_VALUE 3011            /* names the field; on field 10 or 11: not the key generation that was sent */
+#define LP_FINDING_CHECKSUM_DIFFERS 3020       /* or the desk holds no working key of that generation */
+#define LP_FINDING_OTHER_RECEIVER 3021         /* identity or qualifier isn't the desk's own */
+#define LP_FINDING_STAMP_DIFFERS 3022          /* an ESI's: not the stamp that was sent */
+#define LP_FINDING_SUO_AND_PTE_DIFFER 3027     /* names the field */
+#define LP_FINDING_DIGEST_DIFFERS 3028         /* VAR and PTE */
+#define LP_FINDING_PTE_MISSING 3029            /* it never came */
+#define LP_FINDING_KEY_PARITY 3030             /* the enclosed key's; or the desk holds no transport key of that generation */
+#define LP_FINDING_REPLY_TOO_SHORT 3032        /* under 237 characters, a PTE under 317 */
+
+/* How many bytes a desk takes, and what was sent. */
+uint32_t lp_held_size(void);
+uint32_t lp_sent_size(void);
+
+/*
+ * Opens a desk over held's bytes, whatever they are, with its first transport key and, made from it, working key 0.
+ * own: the customer, bank: the bank, 25 bytes each (lp_who); part1, part2: the transport key's parts; check: its check value, 24 bits;
+ * generation: 0 to 9.
+ * Gives 0, or a refusal, the lowest that holds:
+ *    8  the parity of part1 or part2 is even
+ *    9  the check value differs (as each of 2^24 or more does)
+ *   11  held isn't lent as 88 bytes; own or bank isn't 25 bytes or no name; generation above 9
+ */
+uint32_t lp_held_open(uint8_t *held, size_t held_len,
+                      const uint8_t *own, size_t own_len,
+                      const uint8_t *bank, size_t bank_len,
+                      uint64_t part1, uint64_t part2, uint32_t check, uint32_t generation);
+
+/*
+ * Enters the next transport key: the current one becomes the one before it; the working keys stay.
+ * Gives 0, or a refusal, the lowest that holds:
+ *    8  the parity of part1 or part2 is even
+ *    9  the check value differs (as each of 2^24 or more does)
+ *   10  generation isn't the one after the current one's (1 follows 0 and 9)
+ *   11  no desk is written as these bytes, or they aren't 88: 10 is then not looked for
+ */
+uint32_t lp_held_enter(uint8_t *held, size_t held_len,
+                       uint64_t part1, uint64_t part2, uint32_t check, uint32_t generation);
+
+/*
+ * Tells the current keys by their check values, for the comparison with the bank by telephone: after an opening, an entering, and a reply
+ * that encloses a key. values: LP_VALUES numbers, which are written. The desk stays as it is.
+ * Gives 0, or the refusal
+ *   11  no desk is written as these bytes, or they aren't 88; values isn't 4 numbers. Nothing is written then
+ */
+uint32_t lp_held_values(const uint8_t *held, size_t held_len,
+                        uint32_t *values, size_t values_len);
+
+/*
+ * Writes what was sent over sent's bytes, whatever they are: of an ESI, given as first and as closing alike, or of a SUO (first) and its
+ * VAR (closing). A message is its characters alone, joined where it was folded into several records, without line ends.
+ * Parties, stamp, field 13 and one-time key are first's, key generations and digest closing's; what they hold is not judged.
+ * Gives 0, or a refusal:
+ *   11  first doesn't begin with >>ESI or >>SUO, or isn't 161 to 500 characters long (a SUO 128 to 500); closing isn't the same ESI, or
+ *       doesn't begin with >>VAR, or isn't 161 to 500 long; sent isn't lent as 100 bytes
+ */
+uint32_t lp_sent_of(const uint8_t *first, size_t first_len,
+                    const uint8_t *closing, size_t closing_len,
+                    uint8_t *sent, size_t sent_len);
+
+/*
+ * Checks a bank's ESI against the ESI that was sent. reply: its characters alone, without a line end and without what lies behind it in a
+ * larger room; word: LP_WORDS numbers, which are written.
+ * An enclosed key is kept exactly if all pass: it becomes the current working key, of the generation after field 11's, and the key that was
+ * used stays beside it. Nothing else changes the desk. The same reply may be checked again.
+ * Gives LP_PASSES where all pass, else the first of these findings that holds, in this order:
+ *   3032  shorter than 237
+ *   3010  a field's format, the lowest field first: field 1 isn't >>ESI; 2, 3, 5, 10 to 12 aren't digits; more than blanks lies past the
+ *         237; 1 to 16 have other characters than document 01's; 17, and 19 where 18 is 1, isn't 16 hex digits
+ *   3011  a field's value, the lowest first: length 237, version 110 or 120, 4 K or E, 6 not blank, method SMH, a real date and time, 13 to
+ *         16 blank, 18 0 or 1, 19 blank where 18 is 0
+ *   3021  the receiver isn't the desk's own identity and qualifier
+ *   3022  the stamp isn't the one that was sent
+ *   3011  field 10, then 11: another key generation than was sent
+ *   3020  the checksum differs, or the desk holds no working key of that generation
+ *   3030  a key is enclosed whose parity is even, or the desk holds no transport key of that generation
+ * or the refusal
+ *   11  no desk is written as these bytes, or they aren't 88; sent isn't 100 bytes; word isn't 3 numbers. Nothing is written then
+ */
+uint32_t lp_check_esi(uint8_t *held, size_t held_len,
+                      const uint8_t *sent, size_t sent_len,
+                      const uint8_t *reply, size_t reply_len,
+                      uint32_t *word, size_t word_len);
+
+/*
+ * Checks a PTE against the SUO and VAR that were sent, as lp_check_esi does an ESI: the same word, the same keeping of an enclosed key, the
+ * same refusal. A reply of no bytes is a PTE that never came.
+ * Gives LP_PASSES where all pass, else the first of these findings that holds, in this order:
+ *   3029  no bytes
+ *   3032  shorter than 317
+ *   3010  as of an ESI: field 1 isn't >>PTE; more than blanks lies past the 317; 15 and 16 too are 16 hex digits
+ *   3011  as of an ESI: length 317; 13 S or A; 14 alone blank
+ *   3021  the receiver isn't the desk's own identity and qualifier
+ *   3027  the first unequal of: 8 and the SUO's sender, 9 and its receiver, 12, 13, 15
+ *   3028  the digest isn't the VAR's
+ *   3011, 3020, 3030, or the refusal 11, as of an ESI; the generations are the VAR's
+ */
+uint32_t lp_check_pte(uint8_t *held, size_t held_len,
+                      const uint8_t *sent, size_t sent_len,
+                      const uint8_t *reply, size_t reply_len,
+                      uint32_t *word, size_t word_len);
+
+/* What a check gives in a few words; a refusal as lp_refusal_words. */
+static inline const char *lp_finding_words(uint32_t finding) {
+    switch (finding) {
+    case LP_PASSES: return "passes";
+    case LP_FINDING_FIELD_FORMAT: return "a field's format is wrong";
+    case LP_FINDING_FIELD_VALUE: return "a field's value is wrong";
+    case LP_FINDING_CHECKSUM_DIFFERS: return "the checksum differs";
+    case LP_FINDING_OTHER_RECEIVER: return "the receiver is another customer";
+    case LP_FINDING_STAMP_DIFFERS: return "the stamp isn't the one that was sent";
+    case LP_FINDING_SUO_AND_PTE_DIFFER: return "SUO and PTE differ in a field";
+    case LP_FINDING_DIGEST_DIFFERS: return "the digest isn't the one that was sent";
+    case LP_FINDING_PTE_MISSING: return "no PTE came";
+    case LP_FINDING_KEY_PARITY: return "the enclosed key's parity is even";
+    case LP_FINDING_REPLY_TOO_SHORT: return "the reply is too short";
+    default: return lp_refusal_words(finding);
+    }
+}
+
+/* The name in document 001 of a field as LP_WORD_FIELD tells it, in UTF-8; "" where there is none. */
+static inline const char *lp_field_name(uint32_t field) {
+    switch (field) {
+    case 10: return "SANOMATUNNUS";
+    case 20: return "SANOMAPITUUS";
+    case 30: return "VERSIO";
+    case 40: return "ONNISTUMISKOODI";
+    case 50: return "ILMOITUSKOODI";
+    case 60: return "OHJELMISTO";
+    case 70: return "MENETELM\xC3\x84";
+    case 80: return "VASTAANOTTAJA";
+    case 81: return "VAST.TUNNUS";
+    case 82: return "VAST.TARKENNE";
+    case 90: return "L\xC3\x84HETT\xC3\x84J\xC3\x84";
+    case 91: return "L\xC3\x84H.TUNNUS";
+    case 92: return "L\xC3\x84H.TARKENNE";
+    case 100: return "SIIRTOAVAINNO";
+    case 110: return "K\xC3\x84YTT\xC3\x96" "AVAINNO";
+    case 120: return "AIKALEIMA";
+    case 121: return "P\xC3\x84IV\xC3\x84YS";
+    case 122: return "KELLONAIKA";
+    case 123: return "LEIMANUMERO";
+    case 130: return "SUOJAUSALUE";
+    case 140: return "VARALLA";
+    case 150: return "KERTA-AVAIN";
+    case 160: return "TIIVISTE";
+    case 170: return "TARKISTE";
+    case 180: return "AVAINVAIHTO";
+    case 190: return "UUSIAVAIN";
+    case 200: return "ILMOITUS";
+    case 210: return "KUITTAUS";
+    default: return "";
     }
 }
 

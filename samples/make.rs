@@ -22,13 +22,19 @@ const RECORDS: [&[u8]; 3] = [
     b"4921030                0111111116100000001384                    000004",
 ];
 
+// The sample bank's key maker, and the clock value that its files are received with (samples/bank.sh).
+const MAKER: [u64; 2] = [0x0123456789ABCDEF, 0x0000000000000007];
+const CLOCK: u64 = 1;
+
 // A customer at the bank: both have the same keys and differ in the qualifier alone.
 struct Customer<'a> {
     mac: &'a Mac,
     transport: u64,
     working: u64,
+    generation: u32,
     qualifier: &'a str,
     version: &'a str,
+    request: u32,
 }
 
 // The n-th one-time key.
@@ -51,21 +57,28 @@ impl<'a> Customer<'a> {
         let working = odd(mac.decipher(transport, 0));
         assert_eq!((transport, working), (0x379723239789FD9D, 0xAEBAE983D6406D07));
         assert_eq!(mac.encipher(transport, 0) >> 40, 0x028E4C);
-        Customer { mac, transport, working, qualifier, version: "120" }
+        Customer { mac, transport, working, generation: 0, qualifier, version: "120", request: 0 }
+    }
+
+    // With the first key that the bank makes (document 001, 5.3).
+    fn renewed(&self) -> Customer<'a> {
+        let [k, v] = MAKER;
+        let working = odd(self.mac.encipher(k, self.mac.encipher(k, CLOCK) ^ v));
+        Customer { working, generation: 1, ..*self }
     }
 
     // Fields 1 to 15.
     fn message(&self, start: &str, method: &str, stamp: &str, mark: &str, once: &str) -> String {
         let who = format!("{BANK:25}{IDENTITY:17}{:8}", self.qualifier);
-        let version = self.version;
-        format!("{start}{version} 0000KERMIT      3.01{method}{who}00{stamp}{mark}{:9}{once:16}", "")
+        let (version, generation) = (self.version, self.generation);
+        format!("{start}{version} 0000KERMIT      3.01{method}{who}0{generation}{stamp}{mark}{:9}{once:16}", "")
     }
 
     // Fields 16 to 18 added.
     fn signed(&self, message: &str, digest: &str) -> String {
         let covered = format!("{message}{digest:16}");
         assert_eq!(covered.len(), 144);
-        format!("{covered}{:016X}0", self.mac.digest(self.working, covered.as_bytes(), false))
+        format!("{covered}{:016X}{}", self.mac.digest(self.working, covered.as_bytes(), false), self.request)
     }
 
     fn esi(&self, stamp: &str) -> Vec<u8> {
@@ -90,6 +103,15 @@ impl<'a> Customer<'a> {
         let (suo, var) = self.around(&format!("{first}003"), "SKE", once(n + 1), &ended(&records[..2], b"\r\n"));
         lines.extend([&[suo.into_bytes()], &records[..2], &[var.into_bytes()]].concat());
         ended(&lines, b"\r\n")
+    }
+
+    // An ESI and one batch, each message in one record; the ESI alone asks for something.
+    fn short(&self, first: &str, n: u64) -> Vec<u8> {
+        let records = RECORDS.map(<[u8]>::to_vec);
+        let (suo, var) =
+            Customer { request: 0, ..*self }.around(&format!("{first}002"), "SKH", once(n), &ended(&records, b"\n"));
+        let esi = vec![self.esi(&format!("{first}001")), suo.into_bytes()];
+        ended(&[esi, records.to_vec(), vec![var.into_bytes()]].concat(), b"\n")
     }
 
     // An ESI and a batch of a newer release: the messages are longer, folded, and their rests hold anything.
@@ -142,6 +164,9 @@ fn main() -> std::io::Result<()> {
                 ("damaged", damaged),
                 ("newer", customer("").newer("941017100000", 70)),
                 ("friday", customer("").good("941014170000", 80)),
+                // an ESI that asks for a key; then a file under that key
+                ("asking", Customer { request: 1, ..customer("") }.short("941017110000", 90)),
+                ("renewed", customer("").renewed().short("941017113000", 95)),
                 ("batches", customer("").many("941017090000", 20, 40)),
                 ("outside", b"HELLO\n".to_vec()),
                 ("empty", vec![]),

@@ -1,5 +1,5 @@
 /* The header's helpers and constants: a customer by names is the one of fourteen arguments, and the fields of both kinds of reply
- * stand where the constants say. Prints what is wrong; exit status 0 where nothing is. usage: box samples/payments.txt */
+ * stand where the constants say; and a desk on the customer's side, with the same keys, has of each reply what it should. Prints what is wrong; exit status 0 where nothing is. usage: box samples/payments.txt */
 #include "lentilpot.h"
 #include <stdio.h>
 #include <string.h>
@@ -237,6 +237,40 @@ static void earlier(void) {
     hold(lp_refusal(lp_read(table, sizeof table, session, sizeof session, (const uint8_t *)"", 0, room, sizeof room)) == LP_SERVED, "a read");
 }
 
+/* A line of the sample without its line end: how many characters. */
+static size_t width(int line) {
+    return strcspn(lines[line], "\r\n");
+}
+
+/* A desk checks a reply to the message, or the batch, that begins and ends in these lines. */
+static uint32_t checked(uint8_t *held, int first, int closing, size_t reply, uint32_t *word) {
+    uint8_t sent[LP_SENT_SIZE];
+    uint32_t refusal = lp_sent_of((const uint8_t *)lines[first], width(first), (const uint8_t *)lines[closing], width(closing), sent, sizeof sent);
+    hold(refusal == LP_SERVED, "what was sent");
+    return first ? lp_check_pte(held, LP_HELD_SIZE, sent, sizeof sent, replies[reply], sizes[reply], word, LP_WORDS)
+                 : lp_check_esi(held, LP_HELD_SIZE, sent, sizeof sent, replies[reply], sizes[reply], word, LP_WORDS);
+}
+
+/* The sample's replies pass at a desk that holds the same keys, but for 1023, which answers no batch; the key that the last one encloses is
+ * then the bank's current one. A table without holidays has its first customer at 82, the customer's working keys at 57 (docs/FORMAT.md). */
+static void desk(void) {
+    static const int places[][2] = {{0, 0}, {1, 5}, {6, 8}, {10, 12}, {10, 12}};
+    uint8_t held[LP_HELD_SIZE], bank[LP_WHO_SIZE], *keys = table + 82 + 57;
+    uint32_t word[LP_WORDS];
+    lp_who(bank, "003701234567", "");
+    hold(lp_held_open(held, sizeof held, sender.who, LP_WHO_SIZE, bank, sizeof bank, part1, part2, 0x028E4C, 0) == LP_SERVED, "a desk is opened");
+    sample();
+    for (size_t i = 0; i < 5; i++) {
+        uint32_t found = checked(held, places[i][0], places[i][1], i, word);
+        hold(found == (i == 3 ? LP_FINDING_FIELD_FORMAT : LP_PASSES), "the desk's finding of a reply to the sample");
+        hold(word[LP_WORD_LETTER] == replies[i][LP_AT_VERDICT] && word[LP_WORD_CODE] == lp_reply_code(replies[i]), "the bank's word");
+    }
+    hold(held[69] == 1 && !memcmp(held + 69, keys, 19), "the desk and the bank have parted");
+    /* each reply goes with its own batch alone */
+    hold(checked(held, 6, 8, 1, word) == LP_FINDING_SUO_AND_PTE_DIFFER && word[LP_WORD_FIELD] == 120, "another batch's reply");
+    hold(checked(held, 1, 8, 1, word) == LP_FINDING_DIGEST_DIFFERS && word[LP_WORD_FIELD] == 0, "another batch's digest");
+}
+
 int main(int argc, char **argv) {
     FILE *f = argc == 2 ? fopen(argv[1], "rb") : NULL;
     int n = 0;
@@ -244,6 +278,6 @@ int main(int argc, char **argv) {
     hold(n == LINES, "the sample has 13 lines");
     hold(LP_VERSION_NUMBER == 100 * (LP_VERSION[0] - '0') + (LP_VERSION[2] - '0'), "the two versions");
     sender = customer();
-    customers(), adjoining(), sample(), names(), codes(), earlier();
+    customers(), adjoining(), sample(), names(), codes(), earlier(), desk();
     return wrong;
 }

@@ -1,8 +1,9 @@
 #!/bin/sh
-# The library beside the independent model (rust/model): generated cases, tables with spoiled bytes, forged sessions and long
-# batches from one seed, about two minutes' worth; the whole grid of R-2; a file to the byte past the size limit; and each planted
-# fault has to be found within the same cases.
-# usage: sh tests/compare.sh [SEED [CASES]]     (LENTILPOT_LIB: a folder with libedge.a; where it isn't set the archive is made)
+# The library beside the independent model (rust/model): generated cases, tables with spoiled bytes, forged sessions, long batches
+# and calls on desks from one seed, about two minutes' worth; the whole grid of R-2; every byte that a desk is lent (R-5); a file to
+# the byte past the size limit; and each planted fault has to be found within the same cases.
+# usage: sh tests/compare.sh [SEED [CASES]]     (LENTILPOT_LIB: a folder with libedge.a and libdesk_edge.a; where it isn't set both are
+# made)
 set -eu
 [ -z "${LENTILPOT_LIB:-}" ] || LENTILPOT_LIB=$(cd "$LENTILPOT_LIB" && pwd)
 cd "$(dirname "$0")/.."
@@ -22,6 +23,7 @@ trap 'exit 143' TERM
 quiet() { "$@" >"$work/log" 2>&1 || { cat "$work/log" >&2; exit 1; }; }
 if [ -z "${LENTILPOT_LIB:-}" ]; then
     quiet sh scripts/nativelib edge
+    quiet sh scripts/nativelib desk_edge
     LENTILPOT_LIB=$PWD/target/native
 fi
 export LENTILPOT_LIB
@@ -44,11 +46,12 @@ end() { # WORDS..
     cat "$work/beside"
 }
 # Most of the cases in two parts, side by side; then, side by side too, the grid, and what together takes as long: a file to the byte
-# past the size limit and several ways past it, the planted faults, and the rest of the cases.
+# past the size limit and several ways past it, the desk's bytes, the planted faults, and the rest of the cases.
 part=$((cases * 3 / 8))
 begin "$seed" "$part"
 end $((seed + part)) "$part"
 begin grid
 one size
+one desk
 one planted "$seed" "$cases"
 end $((seed + 2 * part)) $((cases - 2 * part))

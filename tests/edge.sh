@@ -1,8 +1,8 @@
 #!/bin/sh
-# The edge as a box sees it: every function called with the same known answers through the C header and through the Rust
+# The edge as a box sees it: every function of both archives called with the same known answers through the C header and through the Rust
 # declarations; the header's helpers and constants; the C sample and the Rust example, which receive files alike, refuse alike and
 # leave the table, the replies and the lock right wherever they are cut off.
-# usage: sh tests/edge.sh     (LENTILPOT_LIB: a folder with libedge.a; where it isn't set the archive is made)
+# usage: sh tests/edge.sh     (LENTILPOT_LIB: a folder with libedge.a and libdesk_edge.a; where it isn't set the archives are made)
 set -eu
 [ -z "${LENTILPOT_LIB:-}" ] || LENTILPOT_LIB=$(cd "$LENTILPOT_LIB" && pwd)
 cd "$(dirname "$0")/.."
@@ -16,7 +16,9 @@ place=$(mktemp -d /dev/shm/edge.XXXXXX 2>/dev/null || mktemp -d)
 trap 'rm -rf "$work" "$place"' EXIT
 place=$(cd "$place" && pwd -P)
 if [ -z "${LENTILPOT_LIB:-}" ]; then
-    sh scripts/nativelib edge >"$work/log" 2>&1 || { cat "$work/log" >&2; exit 1; }
+    for name in edge desk_edge; do
+        sh scripts/nativelib $name >"$work/log" 2>&1 || { cat "$work/log" >&2; exit 1; }
+    done
     LENTILPOT_LIB=$PWD/target/native
 fi
 export LENTILPOT_LIB
@@ -34,22 +36,44 @@ awk 'BEGIN { for (b = 0; b < 256; b++) {
 
 # ---- the header and the Rust declarations
 
-strict rust/lentilpot/tests/known.c "$LENTILPOT_LIB/libedge.a" -o "$work/known"
+# Each archive by itself, then both together.
+known=rust/lentilpot/tests
+strict $known/known.c "$LENTILPOT_LIB/libedge.a" -o "$work/known"
+strict $known/desk.c "$LENTILPOT_LIB/libdesk_edge.a" -o "$work/desk"
 "$work/known" >"$work/known.txt"
-cmp "$work/known.txt" rust/lentilpot/tests/known.txt || {
-    echo "edge: the C program's answers (<) differ from the known ones (>):" >&2
-    diff "$work/known.txt" rust/lentilpot/tests/known.txt >&2
-    exit 1
-}
-strict tests/box.c "$LENTILPOT_LIB/libedge.a" -o "$work/box"
+"$work/desk" $known/desk_cases.txt >"$work/desk.txt"
+for name in known desk; do
+    cmp "$work/$name.txt" $known/$name.txt || {
+        echo "edge: the answers of $name.c (<) differ from the known ones (>):" >&2
+        diff "$work/$name.txt" $known/$name.txt >&2
+        exit 1
+    }
+done
+strict tests/box.c "$LENTILPOT_LIB/libedge.a" "$LENTILPOT_LIB/libdesk_edge.a" -o "$work/box"
 "$work/box" samples/payments.txt >&2 || fail "the header's helpers or constants are wrong"
+strict tests/box_desk.c "$LENTILPOT_LIB/libdesk_edge.a" -o "$work/box_desk"
+"$work/box_desk" >&2 || fail "the desk's calls are wrong"
 if command -v c++ >/dev/null 2>&1; then
     c++ -Wall -Wextra -Wpedantic -Werror -Iinclude -fsyntax-only -x c++ include/lentilpot.h
 fi
 
+# The functions that the header declares, those that Rust declares and covers, and those of the archives, each once.
+sed -n 's/^uint[0-9]*_t \(lp_[a-z_]*\)(.*/\1/p' include/lentilpot.h | LC_ALL=C sort >"$work/declared"
+[ "$(wc -l <"$work/declared")" -ge 16 ] || fail "the header declares fewer than sixteen functions"
+sys="rust/lentilpot/src/sys.rs rust/lentilpot/src/sys/desk.rs"
+# shellcheck disable=SC2086 # two names
+{
+    sed -n 's/^ \{8\}pub fn \(lp_[a-z_]*\)(.*/\1/p' $sys | LC_ALL=C sort >"$work/raw"
+    sed -n 's/^pub fn \(lp_[a-z_]*\)(.*/\1/p' $sys | LC_ALL=C sort >"$work/covered"
+}
+nm -g --defined-only "$LENTILPOT_LIB/libedge.a" "$LENTILPOT_LIB/libdesk_edge.a" | awk '$2 == "T" { print $3 }' | LC_ALL=C sort >"$work/linked"
+for list in raw covered linked; do
+    diff "$work/declared" "$work/$list" >&2 || fail "the header's functions (<) aren't those of Rust or of the archives (>: $list)"
+done
+
 # The constants of header and Rust, one a line; a field is its name, offset and end.
 cc -dM -E -x c include/lentilpot.h | sed -n 's/^#define LP_//p' | LC_ALL=C sort >"$work/header"
-awk '/^(CODE|REFUSED)_/ { print }
+awk '/^(CODE|REFUSED|FINDING)_/ { print }
     /^WIDTH_/ { width[substr($1, 7)] = $2 }
     /^AT_/ { at[substr($1, 4)] = $2 }
     END { for (n in at) print "AT_" n, at[n] (n in width ? " " at[n] + width[n] : "") }' "$work/header" |
@@ -63,10 +87,27 @@ sed -nE 's/.*(taken|refused|barely|faulty|code =) (10[0-9][0-9]).*/\1 \2/p' crat
     awk '{ print $NF, $1 == "taken" ? "K" : "E" }' | LC_ALL=C sort >"$work/codes"
 sed -n 's/^CODE_\(.*\) \(.*\)/\2 \1/p' "$work/header" | awk '{ print $1, $2 ~ /^ACCEPTED/ ? "K" : "E" }' | LC_ALL=C sort |
     diff "$work/codes" - >&2 || fail "the definition's codes (<) differ from the header's (>)"
+# So has every finding, and README.md says what to do with it; a field's name is the definition's.
+sed -nE 's/.*(check|checkField|eachField|code =) (30[0-9][0-9]).*/\2/p' crates/desk/specs/Desk.antt crates/desk_form/specs/Replies.antt |
+    LC_ALL=C sort -u >"$work/findings"
+sed -n 's/^FINDING_.* //p' "$work/header" | LC_ALL=C sort | diff "$work/findings" - >&2 || fail "the definition's findings (<) differ from the header's (>)"
+sed -nE 's/^\| (30[0-9][0-9]) \|.*/\1/p' README.md | LC_ALL=C sort -u | diff "$work/findings" - >&2 || fail "the definition's findings (<) differ from README.md's (>)"
+grep -ohE 'laid \((sub)?field [0-9 ]+\) "[^"]+"' crates/message/specs/Layout.antt crates/notice/specs/Codes.antt |
+    sed -E 's/.*subfield ([0-9]+) ([0-9])\) "(.*)"/\1\2 \3/; s/.*field ([0-9]+)\) "(.*)"/\10 \2/' | LC_ALL=C sort >"$work/names"
+{ [ "$(wc -l <"$work/names")" -ge 25 ] && "$work/box_desk" names | LC_ALL=C sort | diff "$work/names" - >&2; } ||
+    fail "the definition's names of fields (<) differ from the header's (>)"
+sed -nE 's/^ +([0-9]+) => "(.*)",$/\1 \2/p' rust/lentilpot/src/desk.rs | LC_ALL=C sort | diff "$work/names" - >&2 ||
+    fail "the definition's names of fields (<) differ from those in Rust (>)"
+# Refusals and findings in words.
+sed -nE 's/.*case LP_(REFUSED|FINDING)_([A-Z_]+): return "(.*)";/\1_\2 \3/p' include/lentilpot.h | LC_ALL=C sort >"$work/words.c"
+sed -nE 's/.* (refused|finding)::([A-Z_]+) => "(.*)",/\1_\2 \3/p' rust/lentilpot/src/lib.rs rust/lentilpot/src/desk.rs |
+    sed 's/^refused/REFUSED/; s/^finding/FINDING/' | LC_ALL=C sort >"$work/words.rust"
+{ [ "$(wc -l <"$work/words.c")" -ge 22 ] && diff "$work/words.c" "$work/words.rust" >&2; } || fail "the words of the header (<) differ from those in Rust (>)"
 version=$(sed -n 's/^VERSION "\(.*\)"$/\1/p' "$work/header")
 grep -qx "version = \"$version.0\"" rust/lentilpot/Cargo.toml || fail "LP_VERSION is $version, and not the crate's version"
 
-(cd rust && cargo test --locked --offline --quiet -j 1 -p lentilpot && cargo build --locked --offline --quiet -j 1 -p lentilpot --examples) \
+# The examples are without the desk, and link libedge.a alone.
+(cd rust && cargo test --locked --offline --quiet -j 1 -p lentilpot --features desk && cargo build --locked --offline --quiet -j 1 -p lentilpot --examples) \
     >"$work/log" 2>&1 ||
     { cat "$work/log" >&2; exit 1; }
 

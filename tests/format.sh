@@ -12,7 +12,7 @@ fail() {
     exit 1
 }
 
-# The rows of a layout: offset|width|name. A record `within` another and what `perhaps` holds are given field by field, any other as one row.
+# The rows of a layout: offset|width|name, which ends at ':' or ','. A record `within` another and what `perhaps` holds are given field by field, any other as one row.
 # Where records of a number that varies come before, the offset is '?'.
 rows() { # SHAPE FILE...
     LC_ALL=C awk -v wanted="$1" '
@@ -31,7 +31,7 @@ rows() { # SHAPE FILE...
         for (i = 1; i <= fields[t]; i++) sum += wide(term[t, i])
         return sum
     }
-    function row(w, name) { print at "|" w "|" name }
+    function row(w, name) { sub(/[:,].*/, "", name); print at "|" w "|" name }
     function on(w) { if (at != "?") at += w }
     function show(shape,    i, t, p) {
         if (!(shape in fields)) bad("what is " shape "?")
@@ -84,24 +84,27 @@ format=$root/docs/FORMAT.md
 customer=$root/crates/customer_bytes/specs/Layout.antt
 table=$root/crates/table/specs/Written.antt
 session=$root/crates/session_bytes/specs/Session.antt
+desk=$root/crates/desk_bytes/specs/Layout.antt
 same 1 tableShape "$format" "$table" "$customer" || fail "docs/FORMAT.md, a table: '<' is what the layout gives"
 same 2 customerShape "$format" "$customer" || fail "docs/FORMAT.md, a customer: '<' is what the layout gives"
 same 3 pairShape "$format" "$customer" || fail "docs/FORMAT.md, the keys of one kind: '<' is what the layout gives"
 same 4 sessionShape "$format" "$session" || fail "docs/FORMAT.md, a session: '<' is what the layout gives"
+same 5 heldShape "$format" "$desk" || fail "docs/FORMAT.md, a desk: '<' is what the layout gives"
+same 6 sentShape "$format" "$desk" || fail "docs/FORMAT.md, what was sent: '<' is what the layout gives"
 
 # A page or a layout that differs is told.
 told() { # SED FILE N SHAPE
     sed "$1" "$2" >edited
     cmp -s edited "$2" && fail "the edit '$1' changes nothing"
-    if [ "$2" = "$format" ] && [ "$4" = sessionShape ]; then
-        ! same "$3" "$4" edited "$session" >out 2>&1 || fail "the page after '$1' was taken"
-    elif [ "$2" = "$session" ]; then
-        ! same "$3" "$4" "$format" edited >out 2>&1 || fail "the layout after '$1' was taken"
-    elif [ "$2" = "$format" ]; then
-        ! same "$3" "$4" edited "$table" "$customer" >out 2>&1 || fail "the page after '$1' was taken"
-    else
-        ! same "$3" "$4" "$format" "$table" edited >out 2>&1 || fail "the layout after '$1' was taken"
-    fi
+    case $4 in
+    sessionShape) layouts=("$session") ;;
+    heldShape | sentShape) layouts=("$desk") ;;
+    *) layouts=("$table" "$customer") ;;
+    esac
+    at=$format
+    [ "$2" != "$format" ] || at=edited
+    for i in "${!layouts[@]}"; do [ "${layouts[i]}" != "$2" ] || layouts[i]=edited; done
+    ! same "$3" "$4" "$at" "${layouts[@]}" >out 2>&1 || fail "${2##*/} after '$1' was taken"
 }
 told 's/^| 84 | 1 |/| 85 | 1 |/' "$format" 2 customerShape
 told 's/^| 20 | 4 | customer offset/| 20 | 4 | holiday offset/' "$format" 1 tableShape
@@ -113,4 +116,10 @@ told 's/^| 229 | 1 |/| 228 | 1 |/' "$format" 4 sessionShape
 told 's/number 4 ⊗  -- opening.kind/number 5 ⊗  -- opening.kind/' "$session" 4 sessionShape
 told 's/  -- ended/  -- told/' "$session" 4 sessionShape
 told 's/perhaps onceShape/onceShape/' "$session" 4 sessionShape
+told 's/^| 78 | 1 |/| 79 | 1 |/' "$format" 5 heldShape
+told 's/number 8  -- key/number 4  -- key/' "$desk" 5 heldShape
+told 's/perhaps numberedShape/numberedShape/' "$desk" 5 heldShape
+told 's/  -- the bank.s/  -- the branch/' "$desk" 5 heldShape
+told '/^| 67 | 1 | field 13/d' "$format" 6 sentShape
+told 's/text 15 ⊗/text 14 ⊗/' "$desk" 6 sentShape
 echo "tests/format: ok"

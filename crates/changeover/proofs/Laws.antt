@@ -154,7 +154,7 @@ good-held k g d e = pick-held _ _ _ _ (previous-held (k .previous) g d) e
 
 -- ---- after a change the old generation is still held
 
-next-differs : (g : ℕ) → nextGeneration g ≡ g → ⊥
+pub next-differs : (g : ℕ) → nextGeneration g ≡ g → ⊥
 unfolding nextGeneration
 next-differs g e = by (ltb g 9) refl
   where

@@ -476,5 +476,5 @@ Exit status  0  served, and every reply is K
 }
 
 pub fn version() -> bool {
-    say::out(b"lentilpot 1.3\n")
+    say::out(b"lentilpot 1.4\n")
 }

@@ -119,7 +119,7 @@ module _ (b session : List ℕ) (today time kind clock : ℕ) (words : Words (lp
   abbrev asked : Opening
   asked = openingBy session today time kind clock
 
-  served : openingAnswer b asked ≡ 0
+  pub served : openingAnswer b asked ≡ 0
   unfolding boxAnswer callOf refusalOf
   served = z
 
@@ -133,7 +133,7 @@ module _ (b session : List ℕ) (today time kind clock : ℕ) (words : Words (lp
   unfolding openingBy
   session-whole = eqb-true _ _ (kind-least (eqb (length session) sessionSize) (opening-served b asked served .kind))
 
-  is-brought : asked ≡ broughtBy today time kind clock
+  pub is-brought : asked ≡ broughtBy today time kind clock
   unfolding openingBy
   is-brought = ap (λ (k : ℕ). broughtBy today time k clock) (picks _ kind 0 (eq-eqb _ _ session-whole))
 

@@ -1,21 +1,28 @@
 //! The library and the independent model side by side.
 //!
-//!     compare SEED CASES            generated cases, spoiled tables, forged sessions and long batches from this seed on
+//!     compare SEED CASES            generated cases, spoiled tables, forged sessions, long batches and calls on desks from this
+//!                                   seed on
 //!     compare planted SEED CASES    each planted fault has to be found within these cases
 //!     compare grid [every]          the whole grid of R-2 in reads of many sizes (takes about a minute), or in every size
+//!     compare desk                  every byte that a desk is lent with every value (takes about a minute)
 //!     compare size                  a file to the byte past the size limit (takes about a minute)
 //!
 //! A difference is printed with its case made small; the exit status is then 1.
 #![forbid(unsafe_code)]
+mod damaged;
+mod desk_edge;
 mod edge;
 mod forged;
 mod grid;
 mod long;
 mod spoiled;
 
+use desk_edge::{DeskEdge, DeskSlip};
 use edge::{Edge, Slip};
 use model::case::{compare, compare_seen, shrink, Case, Front, ModelFront};
 use model::count::Counts;
+use model::desk::{DeskFault, DeskFront, ModelDesk};
+use model::desk_case::{self, DeskCall, DeskCounts};
 use model::file::Fault;
 use model::generate;
 use std::io::{IsTerminal, Write};
@@ -41,6 +48,16 @@ fn show_forged(front: &mut dyn Front, seed: u64) {
         Err(b) => println!("forged sessions, seed {seed}, made small; call {}: {}\n{small}", b.step, b.what),
         Ok(_) => println!("forged sessions, seed {seed}: it differs only before it is made small"),
     }
+}
+
+fn show_desk(front: &mut dyn DeskFront, what: &str, calls: &[DeskCall]) {
+    let small = desk_case::shrink(front, calls);
+    let Err((at, told)) = desk_case::compare(front, &small) else {
+        println!("{what}: it differs only before it is made small");
+        return;
+    };
+    println!("{what}, made small; call {at} gives {}\nby the model {}", told[0], told[1]);
+    small.iter().enumerate().for_each(|(at, call)| println!("{at:3}: {call}"));
 }
 
 /// One line that is written over where it goes to a terminal, and now and then a line elsewhere.
@@ -75,7 +92,9 @@ fn run(seed: u64, cases: u64) -> bool {
     let mut spoiled_calls = [0u64; 2];
     let mut progress = Progress::new("cases");
     let mut differences = 0;
+    let mut desks = DeskCounts::default();
     let front = &mut Edge(Slip::None);
+    let desk = &mut DeskEdge(DeskSlip::None);
     for s in seed..seed + cases {
         let case = generate::case(s);
         if compare_seen(front, &case, &mut |step, answer| counts.see(step, answer)).is_err() {
@@ -102,6 +121,14 @@ fn run(seed: u64, cases: u64) -> bool {
                 differences += 1;
             }
         }
+        let calls = desk_case::calls(s);
+        match desk_case::compare(desk, &calls) {
+            Ok(told) => desks.see(&calls, &told),
+            Err(_) => {
+                show_desk(desk, &format!("desk, seed {s}"), &calls);
+                differences += 1;
+            }
+        }
         progress.tell(s - seed + 1, cases, differences);
         // What one fault breaks is mostly the same; a few differences say enough.
         if differences == 5 {
@@ -119,6 +146,9 @@ fn run(seed: u64, cases: u64) -> bool {
         seen.served, seen.refused, seen.accepted, seen.forged_served, seen.forged_accepted
     );
     println!("messages on their way after a read: {}, past character 161: {}", seen.on_their_way, seen.past_161);
+    let missing = desks.missing();
+    let never = if missing.is_empty() { "nothing".to_string() } else { missing.join("; ") };
+    println!("calls on desks: {}; never came up of them: {never}", desks.told.values().sum::<u64>());
     println!(
         "{cases} cases from seed {seed}, {:.0} seconds: {differences} differences",
         progress.began.elapsed().as_secs_f64()
@@ -158,7 +188,39 @@ fn planted(seed: u64, cases: u64) -> bool {
     for slip in Slip::ALL {
         tell(format!("{slip:?}"), found(seed, cases, &mut Edge(slip), true));
     }
+    for fault in DeskFault::ALL {
+        tell(format!("{fault:?}"), found_by_desk(seed, cases, &mut ModelDesk(fault)));
+    }
+    for slip in DeskSlip::ALL {
+        tell(format!("{slip:?}"), found_by_desk(seed, cases, &mut DeskEdge(slip)));
+    }
     every
+}
+
+/// The same of a desk.
+fn found_by_desk(seed: u64, cases: u64, front: &mut dyn DeskFront) -> Option<(u64, &'static str)> {
+    let mut cases = seed..seed + cases;
+    cases.find(|s| desk_case::compare(front, &desk_case::calls(*s)).is_err()).map(|s| (s, "desk"))
+}
+
+/// Every byte that a desk is lent; the first few differences are shown, and the others counted.
+fn desk() -> bool {
+    let front = &mut DeskEdge(DeskSlip::None);
+    let (bases, mut tried) = (damaged::bases(), damaged::Tried::default());
+    let mut progress = Progress::new("replies");
+    for (done, base) in bases.iter().enumerate() {
+        let shown = tried.parted.len();
+        tried.base(front, base);
+        for parted in &tried.parted[shown..] {
+            println!("{base}: {}", parted.what);
+            show_desk(front, "the same", &parted.calls);
+        }
+        progress.tell(done as u64 + 1, bases.len() as u64, tried.differences);
+    }
+    println!("{tried}");
+    let (seconds, differences) = (progress.began.elapsed().as_secs_f64(), tried.differences);
+    println!("every byte that a desk is lent, {seconds:.0} seconds: {differences} differences");
+    differences == 0
 }
 
 /// Every file of the grid; the first few differences are shown, and the others counted.
@@ -206,13 +268,14 @@ fn main() {
     let well = match words[..] {
         ["grid"] => grid(false),
         ["grid", "every"] => grid(true),
+        ["desk"] => desk(),
         ["size"] => size(),
         ["planted", a, b] if number(a).is_some() && number(b).is_some() => {
             planted(number(a).unwrap(), number(b).unwrap())
         }
         [a, b] if number(a).is_some() && number(b).is_some() => run(number(a).unwrap(), number(b).unwrap()),
         _ => {
-            eprintln!("usage: compare SEED CASES | compare planted SEED CASES | compare grid [every] | compare size");
+            eprintln!("usage: compare SEED CASES | planted SEED CASES | grid [every] | desk | size");
             exit(2);
         }
     };
@@ -241,6 +304,14 @@ mod tests {
         let small = forged::shrink(front, &forged::forged(seed));
         assert!(forged::drive(front, &small).is_err());
         assert!(small.case.steps.len() <= 4 && small.forgings.len() == 1, "{small}");
+    }
+
+    #[test]
+    fn what_differs_on_a_desk_is_made_small() {
+        let front = &mut DeskEdge(DeskSlip::KeyNotStored);
+        let calls = (1..).map(desk_case::calls).find(|c| desk_case::compare(front, c).is_err()).expect("found");
+        let small = desk_case::shrink(front, &calls);
+        assert!(desk_case::compare(front, &small).is_err() && small.len() <= 3, "{small:?}");
     }
 
     /// Long batches are accepted now and then, or they would try nothing.

@@ -88,6 +88,31 @@ pub mod code {
     pub const NOT_AGREED: u16 = 1035;
 }
 
+/// The desk's findings: what [`Finding::code`](crate::Finding::code) gives, document 001's codes of the customer's side.
+#[cfg(feature = "desk")]
+pub mod finding {
+    /// A field's format; the finding names the field. A blank checksum is this on field 17, or on a lower one.
+    pub const FIELD_FORMAT: u32 = 3010;
+    /// A field's value; the finding names the field. On field 10 or 11: not the key generation that was sent.
+    pub const FIELD_VALUE: u32 = 3011;
+    /// The checksum differs, or the desk holds no working key of that generation.
+    pub const CHECKSUM_DIFFERS: u32 = 3020;
+    /// The receiver's identity or qualifier isn't the desk's own.
+    pub const OTHER_RECEIVER: u32 = 3021;
+    /// An ESI's stamp isn't the one that was sent.
+    pub const STAMP_DIFFERS: u32 = 3022;
+    /// SUO and PTE differ in the field that the finding names.
+    pub const SUO_AND_PTE_DIFFER: u32 = 3027;
+    /// The digests of VAR and PTE differ.
+    pub const DIGEST_DIFFERS: u32 = 3028;
+    /// The PTE never came.
+    pub const PTE_MISSING: u32 = 3029;
+    /// The enclosed key's parity is even, or the desk holds no transport key of that generation.
+    pub const KEY_PARITY: u32 = 3030;
+    /// The reply is under 237 characters, a PTE under 317.
+    pub const REPLY_TOO_SHORT: u32 = 3032;
+}
+
 /// Where a reply's fields stand, alike in both kinds: `&reply.as_bytes()[at::NOTICE]`. An ESI ends after the notice, and only a PTE
 /// has a receipt. The numbers are the fields of document 001, appendix 1.
 pub mod at {

@@ -42,19 +42,28 @@
 //! assert_eq!(replies, ["K 1001", "E 1023"]);
 //! # Ok::<(), Box<dyn std::error::Error>>(())
 //! ```
+//!
+//! With the feature `desk` there is the customer's side too: `Desk` checks what the bank sends back. It links an archive of its own,
+//! `libdesk_edge.a`.
 #![deny(unsafe_code)]
 #![warn(missing_docs)]
 
 mod constants;
+#[cfg(feature = "desk")]
+mod desk;
 #[allow(unsafe_code)]
 pub mod sys;
 
+#[cfg(feature = "desk")]
+pub use constants::finding;
 pub use constants::{at, code, refused};
+#[cfg(feature = "desk")]
+pub use desk::{field_name, CheckValue, CheckValues, Checked, Desk, Finding, Sent, HELD_SIZE, SENT_SIZE};
 use std::fmt;
 use std::io::{self, Read};
 
 /// The version of these functions and constants: LP_VERSION of the C header.
-pub const VERSION: &str = "1.3";
+pub const VERSION: &str = "1.4";
 /// The bytes of a table.
 pub const TABLE_SIZE: usize = 49_152;
 /// The longest reply, and the least room that a call asks for one.

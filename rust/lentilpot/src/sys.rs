@@ -3,6 +3,11 @@
 //! other, which is what the library asks; it keeps no pointer past a call.
 #![allow(clippy::too_many_arguments)]
 
+#[cfg(feature = "desk")]
+mod desk;
+#[cfg(feature = "desk")]
+pub use desk::*;
+
 mod raw {
     extern "C" {
         pub fn lp_session_size() -> u32;

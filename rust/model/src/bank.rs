@@ -147,7 +147,7 @@ fn is_name(bytes: &[u8]) -> bool {
 }
 
 /// An identity that isn't all blank, with a qualifier that may be.
-fn is_who(bytes: &[u8]) -> bool {
+pub(crate) fn is_who(bytes: &[u8]) -> bool {
     bytes.len() == 25 && is_name(&bytes[..17]) && bytes[17..].iter().all(|&b| is_field_character(b))
 }
 

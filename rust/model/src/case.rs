@@ -431,7 +431,7 @@ fn pattern(step: usize, room: usize) -> Vec<u8> {
     (0..room).map(|i| (step.wrapping_mul(37) ^ i.wrapping_mul(11)) as u8 | 0x80).collect()
 }
 
-fn shown(bytes: &[u8]) -> String {
+pub(crate) fn shown(bytes: &[u8]) -> String {
     let mut out = String::new();
     let mut at = 0;
     while at < bytes.len() {

@@ -9,6 +9,8 @@ pub mod checks;
 pub mod count;
 pub mod customer;
 pub mod des;
+pub mod desk;
+pub mod desk_case;
 pub mod fields;
 pub mod file;
 pub mod generate;

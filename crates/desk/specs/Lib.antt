@@ -1,0 +1,4 @@
+-- What the contracts of `desk` cite.
+pub mod Held
+pub mod Desk
+pub mod Sent

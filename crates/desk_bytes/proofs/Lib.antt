@@ -1,0 +1,5 @@
+-- Laws that belong to no one function.
+pub mod Fields
+pub mod Tests
+pub mod Back
+pub mod Again

@@ -1,0 +1,2 @@
+-- What the contracts of `desk_edge` cite.
+pub mod Calls

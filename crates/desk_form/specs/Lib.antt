@@ -1,0 +1,2 @@
+-- What the contracts of `desk_form` cite.
+pub mod Replies
