@@ -5,7 +5,7 @@
 #include <stdlib.h>
 #include <string.h>
 
-static uint8_t internal_code(uint8_t c) {
+uint8_t internal_code(uint8_t c) {
     if (c >= 'a' && c <= 'z') return (uint8_t)(c - 32);
     return (c >= 'A' && c <= 'Z') || (c >= '0' && c <= '9') || (c && strchr("%()*+,-./:;<=>", c)) ? c : ' ';
 }

@@ -21,6 +21,8 @@ enum { ESI_LENGTH = 161, SUO_LENGTH = 128, VAR_LENGTH = 161 };
 /* Gives the length. `key` is the working key for the checksum. */
 size_t write_message(uint8_t out[161], const struct message *m, uint64_t key);
 
+uint8_t internal_code(uint8_t c);
+
 /* The digest of the data's records as they stand in the file, line ends and all. */
 uint64_t digest_of(const uint8_t *data, size_t n, int strips_blanks, uint64_t once);
 

@@ -1,12 +1,12 @@
 /*
- * Lentilpot for a box: the receiving front end for payment files under PATU 1.22; and, for a customer's box, the desk, which checks what
- * the bank sends back.
+ * Lentilpot for a box: the receiving front end for payment files under PATU 1.22; and, for a customer's box, the builder, which makes the
+ * messages round its records, and the desk, which checks what the bank sends back.
  *
  * To build, at the root of the repository, with the Rattle kit:
  *     rt staticlib edge                                                  proves the library, writes target/staticlib/libedge.a
  *     cc -std=c99 -Iinclude box.c target/staticlib/libedge.a -o box      compiles and links; nothing else is needed
  * On a processor that isn't x86-64: sh scripts/nativelib edge, and target/native/libedge.a.
- * The desk's calls (the last section) are in an archive of their own: rt staticlib desk_edge, target/staticlib/libdesk_edge.a. A box
+ * The customer's calls (the last two sections) are in an archive of their own: rt staticlib desk_edge, target/staticlib/libdesk_edge.a. A box
  * links the archive that it calls; both may be linked together.
  *
  * A bank's table is 49,152 bytes that the box keeps (docs/FORMAT.md has every byte); a file on its way is a session of
@@ -35,6 +35,7 @@
  *   10  the new transport generation isn't the next
  *   11  another argument is outside its limits
  *   12  that kind's previous key is held and its last day isn't past
+ *   13  a field that was given breaks document 01's format or value rules (the calls that build, last section)
  * A refused call changes nothing: table, session and reply stay as they were, and no byte is taken.
  *
  * Arguments. Bytes are lent as a pointer and a length; nothing is read or written past the length. Memory that a call writes
@@ -53,8 +54,8 @@
 extern "C" {
 #endif
 
-#define LP_VERSION "1.4"       /* of these functions and constants */
-#define LP_VERSION_NUMBER 104  /* the same for #if: 100 times the first number, and the second */
+#define LP_VERSION "1.5"       /* of these functions and constants */
+#define LP_VERSION_NUMBER 105  /* the same for #if: 100 times the first number, and the second */
 
 #define LP_TABLE_SIZE 49152  /* the bytes of a table */
 #define LP_SESSION_SIZE 472  /* the bytes of a session: what lp_session_size() says */
@@ -76,6 +77,7 @@ extern "C" {
 #define LP_REFUSED_GENERATION 10
 #define LP_REFUSED_ARGUMENT 11
 #define LP_REFUSED_CHANGEOVER 12
+#define LP_REFUSED_FIELD 13
 
 /* The codes of replies. These seven are K, accepted: */
 #define LP_CODE_ACCEPTED 1001
@@ -381,6 +383,7 @@ static inline const char *lp_refusal_words(uint32_t refusal) {
     case LP_REFUSED_GENERATION: return "the new transport generation isn't the next";
     case LP_REFUSED_ARGUMENT: return "an argument is outside its limits";
     case LP_REFUSED_CHANGEOVER: return "the changeover from the previous key is not past";
+    case LP_REFUSED_FIELD: return "a field breaks the rules for its format or value";
     default: return "no refusal has this number";
     }
 }
@@ -581,6 +584,103 @@ static inline const char *lp_field_name(uint32_t field) {
     default: return "";
     }
 }
+
+/*
+ * ---- The builder: on the customer's side, ESI, SUO and VAR are made round its records (libdesk_edge.a, with the desk).
+ *
+ * An ESI opens a file; a SUO and a VAR stand round the records of each batch. They are of version 120, under the desk's current keys.
+ *
+ * A file is an ESI; then, for each batch, its SUO, its records and its VAR; every message and record followed by LF, or CR LF. To make one:
+ * lp_build_esi; for each batch lp_build_suo, whose text goes out before the data is seen, lp_add_record for each record, lp_build_var. Each
+ * gives a room of characters, to be written as one record, and what was sent, to be kept until the bank's reply is checked with it.
+ *
+ * What is built so is accepted by the bank's box, and the reply passes the desk, if: the customer is known to the bank and has agreed on
+ * PATU; the stamp is fresh (the bank has taken no message with it from this customer), not more than five banking days old and not after
+ * the day on which the bank opens the file; the bank holds fewer than 64 live stamps of the customer; the desk's bank is this bank; both
+ * sides have the same current keys; and for a batch: it comes after the ESI, the file's data type is allowed, its one-time key was not
+ * used, its records hold no LF, don't end with CR and don't begin with >>ESI, >>SUO or >>VAR, at least one character is left after
+ * stripping; and the file is within 4,294,967,295 bytes. A key that is asked for (request '1') is current at the bank from the reply on:
+ * ask in the last message of a file.
+ *
+ *     SAVE THE KEY MAKER'S NUMBERS AND WHAT WAS SENT BEFORE THE FILE IS SENT. A maker that stands where it stood makes the same one-time keys
+ *     again at the same clock value, and the bank refuses them (E 1017); without what was sent no reply can be checked.
+ */
+#define LP_BATCH_SIZE 168     /* the bytes of a batch on its way: what lp_batch_size() says */
+#define LP_ESI_SIZE 161       /* the characters of an ESI and of a VAR */
+#define LP_VAR_SIZE 161
+#define LP_SUO_SIZE 128       /* and of a SUO */
+#define LP_STAMP_SIZE 15      /* yymmddhhmmss and a number of three digits */
+#define LP_METHOD_SIZE 3
+#define LP_SKH "SKH"          /* blanks at the end of a record aren't in the digest */
+#define LP_SKE "SKE"          /* they are */
+#define LP_AREA_TRANSFER 'S'  /* field 13 of document 001: what is protected is a transfer, */
+#define LP_AREA_DATA 'A'      /* or a batch of data */
+#define LP_REQUEST_NONE '0'   /* nothing is asked for */
+#define LP_REQUEST_KEY '1'    /* a new working key, please */
+#define LP_REQUEST_END '2'    /* end the changeover, please */
+#define LP_MAKER_SIZE 2       /* the numbers of a key maker: K, which stays, and V, which moves on */
+
+/* How many bytes a batch on its way takes. */
+uint32_t lp_batch_size(void);
+
+/*
+ * Builds an ESI. software: its 16 characters; stamp: 15; request: a character, LP_REQUEST_... ; text: room for the ESI's 161 characters;
+ * sent: room for what was sent, 100 bytes, as lp_sent_of would give it. Both are written.
+ * Gives 0, or a refusal, the lowest that holds:
+ *   11  no desk is written as held's bytes; software isn't 16 bytes, stamp not 15; request is above 255; text isn't 161 bytes, sent not 100
+ *   13  a field breaks document 01's rules: another character than those of names; a software name all blank; a stamp that isn't digits, or
+ *       its date or time not real; a request other than '0', '1', '2'
+ * A refused call writes nothing.
+ */
+uint32_t lp_build_esi(const uint8_t *held, size_t held_len,
+                      const uint8_t *software, size_t software_len,
+                      const uint8_t *stamp, size_t stamp_len,
+                      uint32_t request,
+                      uint8_t *text, size_t text_len,
+                      uint8_t *sent, size_t sent_len);
+
+/*
+ * Builds a SUO, and begins a batch. maker: the key maker's two numbers, K and V, the bureau's own: never the bank's, never a copy's (document
+ * 001, 5.3); the one-time key is made from them and clock, and V moves on. method: LP_SKH or LP_SKE, 3 characters; area: a character,
+ * LP_AREA_... ; text: room for the SUO's 128 characters; batch: room for the batch, 168 bytes. The three are written.
+ * The batch holds the one-time key and the working key: keep it where nobody else reads it, and no longer than the batch is on its way.
+ * Gives 0, or a refusal, the lowest that holds:
+ *   11  no desk is written as held's bytes; maker isn't 2 numbers; software isn't 16 bytes, method not 3, stamp not 15; area is above 255; text
+ *       isn't 128 bytes, batch not 168
+ *   13  a field breaks document 01's rules, as of an ESI; a method other than SKH and SKE; an area other than 'S' and 'A'
+ * A refused call writes nothing, and the maker stands where it stood.
+ */
+uint32_t lp_build_suo(const uint8_t *held, size_t held_len,
+                      uint64_t *maker, size_t maker_len,
+                      uint64_t clock,
+                      const uint8_t *software, size_t software_len,
+                      const uint8_t *method, size_t method_len,
+                      const uint8_t *stamp, size_t stamp_len,
+                      uint32_t area,
+                      uint8_t *text, size_t text_len,
+                      uint8_t *batch, size_t batch_len);
+
+/*
+ * Adds one record to a batch: its characters, whole, without its line end. Any bytes may be given; which of them the bank takes as data
+ * stands above.
+ * Gives 0, or the refusal
+ *   11  no batch is written as these bytes, or they aren't 168. Nothing is written then
+ */
+uint32_t lp_add_record(uint8_t *batch, size_t batch_len,
+                       const uint8_t *record, size_t record_len);
+
+/*
+ * Builds the VAR that closes a batch, under the working key that was current when its SUO was built. The batch stays as it is. text: room for
+ * the VAR's 161 characters, sent: room for what was sent, of SUO and VAR; both are written.
+ * Gives 0, or a refusal, the lowest that holds:
+ *   11  no batch is written as these bytes; request is above 255; text isn't 161 bytes, sent not 100
+ *   13  a request other than '0', '1', '2'
+ * A refused call writes nothing, and the batch can still be closed.
+ */
+uint32_t lp_build_var(const uint8_t *batch, size_t batch_len,
+                      uint32_t request,
+                      uint8_t *text, size_t text_len,
+                      uint8_t *sent, size_t sent_len);
 
 #ifdef __cplusplus
 }

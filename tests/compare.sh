@@ -1,7 +1,8 @@
 #!/bin/sh
-# The library beside the independent model (rust/model): generated cases, tables with spoiled bytes, forged sessions, long batches
-# and calls on desks from one seed, about two minutes' worth; the whole grid of R-2; every byte that a desk is lent (R-5); a file to
-# the byte past the size limit; and each planted fault has to be found within the same cases.
+# The library beside the independent model (rust/model): generated cases, tables with spoiled bytes, forged sessions, long batches,
+# calls on desks and on the builder, and files built, received and checked from one seed, some minutes' worth; the whole grid of R-2;
+# every byte that a desk is lent (R-5) and that the builder is (R-6); a file to the byte past the size limit; and each planted fault has
+# to be found within the same cases.
 # usage: sh tests/compare.sh [SEED [CASES]]     (LENTILPOT_LIB: a folder with libedge.a and libdesk_edge.a; where it isn't set both are
 # made)
 set -eu
@@ -46,12 +47,13 @@ end() { # WORDS..
     cat "$work/beside"
 }
 # Most of the cases in two parts, side by side; then, side by side too, the grid, and what together takes as long: a file to the byte
-# past the size limit and several ways past it, the desk's bytes, the planted faults, and the rest of the cases.
+# past the size limit and several ways past it, the desk's and the builder's bytes, the planted faults, and the rest of the cases.
 part=$((cases * 3 / 8))
 begin "$seed" "$part"
 end $((seed + part)) "$part"
 begin grid
 one size
 one desk
+one build
 one planted "$seed" "$cases"
 end $((seed + 2 * part)) $((cases - 2 * part))

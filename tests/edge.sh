@@ -40,9 +40,11 @@ awk 'BEGIN { for (b = 0; b < 256; b++) {
 known=rust/lentilpot/tests
 strict $known/known.c "$LENTILPOT_LIB/libedge.a" -o "$work/known"
 strict $known/desk.c "$LENTILPOT_LIB/libdesk_edge.a" -o "$work/desk"
+strict $known/build.c "$LENTILPOT_LIB/libdesk_edge.a" -o "$work/build"
 "$work/known" >"$work/known.txt"
 "$work/desk" $known/desk_cases.txt >"$work/desk.txt"
-for name in known desk; do
+"$work/build" $known/build_cases.txt >"$work/build.txt"
+for name in known desk build; do
     cmp "$work/$name.txt" $known/$name.txt || {
         echo "edge: the answers of $name.c (<) differ from the known ones (>):" >&2
         diff "$work/$name.txt" $known/$name.txt >&2
@@ -53,15 +55,17 @@ strict tests/box.c "$LENTILPOT_LIB/libedge.a" "$LENTILPOT_LIB/libdesk_edge.a" -o
 "$work/box" samples/payments.txt >&2 || fail "the header's helpers or constants are wrong"
 strict tests/box_desk.c "$LENTILPOT_LIB/libdesk_edge.a" -o "$work/box_desk"
 "$work/box_desk" >&2 || fail "the desk's calls are wrong"
+strict tests/box_build.c "$LENTILPOT_LIB/libdesk_edge.a" -o "$work/box_build"
+"$work/box_build" >&2 || fail "the calls that build are wrong"
 if command -v c++ >/dev/null 2>&1; then
     c++ -Wall -Wextra -Wpedantic -Werror -Iinclude -fsyntax-only -x c++ include/lentilpot.h
 fi
 
 # The functions that the header declares, those that Rust declares and covers, and those of the archives, each once.
 sed -n 's/^uint[0-9]*_t \(lp_[a-z_]*\)(.*/\1/p' include/lentilpot.h | LC_ALL=C sort >"$work/declared"
-[ "$(wc -l <"$work/declared")" -ge 16 ] || fail "the header declares fewer than sixteen functions"
-sys="rust/lentilpot/src/sys.rs rust/lentilpot/src/sys/desk.rs"
-# shellcheck disable=SC2086 # two names
+[ "$(wc -l <"$work/declared")" -ge 21 ] || fail "the header declares fewer than twenty-one functions"
+sys="rust/lentilpot/src/sys.rs rust/lentilpot/src/sys/desk.rs rust/lentilpot/src/sys/build.rs"
+# shellcheck disable=SC2086 # three names
 {
     sed -n 's/^ \{8\}pub fn \(lp_[a-z_]*\)(.*/\1/p' $sys | LC_ALL=C sort >"$work/raw"
     sed -n 's/^pub fn \(lp_[a-z_]*\)(.*/\1/p' $sys | LC_ALL=C sort >"$work/covered"

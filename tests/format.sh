@@ -76,7 +76,7 @@ page() { # N FILE
 same() { # N SHAPE PAGE FILE...
     rows "$2" "${@:4}" >layout || return 1
     page "$1" "$3" >said
-    [ "$(wc -l <layout)" -ge 7 ] || { echo "layout $2: fewer than seven rows" >&2; return 1; }
+    [ "$(wc -l <layout)" -ge 6 ] || { echo "layout $2: fewer than six rows" >&2; return 1; }
     diff layout said
 }
 
@@ -85,12 +85,14 @@ customer=$root/crates/customer_bytes/specs/Layout.antt
 table=$root/crates/table/specs/Written.antt
 session=$root/crates/session_bytes/specs/Session.antt
 desk=$root/crates/desk_bytes/specs/Layout.antt
+batch=$root/crates/build_bytes/specs/Layout.antt
 same 1 tableShape "$format" "$table" "$customer" || fail "docs/FORMAT.md, a table: '<' is what the layout gives"
 same 2 customerShape "$format" "$customer" || fail "docs/FORMAT.md, a customer: '<' is what the layout gives"
 same 3 pairShape "$format" "$customer" || fail "docs/FORMAT.md, the keys of one kind: '<' is what the layout gives"
 same 4 sessionShape "$format" "$session" || fail "docs/FORMAT.md, a session: '<' is what the layout gives"
 same 5 heldShape "$format" "$desk" || fail "docs/FORMAT.md, a desk: '<' is what the layout gives"
 same 6 sentShape "$format" "$desk" || fail "docs/FORMAT.md, what was sent: '<' is what the layout gives"
+same 7 batchShape "$format" "$batch" || fail "docs/FORMAT.md, a batch: '<' is what the layout gives"
 
 # A page or a layout that differs is told.
 told() { # SED FILE N SHAPE
@@ -99,6 +101,7 @@ told() { # SED FILE N SHAPE
     case $4 in
     sessionShape) layouts=("$session") ;;
     heldShape | sentShape) layouts=("$desk") ;;
+    batchShape) layouts=("$batch") ;;
     *) layouts=("$table" "$customer") ;;
     esac
     at=$format
@@ -122,4 +125,8 @@ told 's/perhaps numberedShape/numberedShape/' "$desk" 5 heldShape
 told 's/  -- the bank.s/  -- the branch/' "$desk" 5 heldShape
 told '/^| 67 | 1 | field 13/d' "$format" 6 sentShape
 told 's/text 15 ⊗/text 14 ⊗/' "$desk" 6 sentShape
+told 's/^| 152 | 8 |/| 151 | 8 |/' "$format" 7 batchShape
+told '/^| 136 | 8 | working key/d' "$format" 7 batchShape
+told 's/text 128 ⊗/text 161 ⊗/' "$batch" 7 batchShape
+told 's/  -- one-time key/  -- new key/' "$batch" 7 batchShape
 echo "tests/format: ok"

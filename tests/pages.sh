@@ -1,11 +1,13 @@
 #!/bin/bash
-# The one list of commands, docs/commands, and what is made from it: the help, the man page and the completion are what scripts/pages makes; the man page
+# The lists of commands, docs/commands and docs/commands-bureau, and what is made from them: the help, the man page and the completion are what scripts/pages makes; the man page
 # gives no warning; the completion completes; README.md lists the same commands; the program prints the help that was made.
-# usage: bash tests/pages.sh     (PROGRAM: the program, target/program/lentilpot where it isn't set)
+# usage: bash tests/pages.sh     (PROGRAM and BUREAU: the programs, those of target/program where they aren't set)
 set -eu
 root=$(cd "$(dirname "$0")/.." && pwd -P)
 program=${PROGRAM:-$root/target/program/lentilpot}
+bureau_program=${BUREAU:-$root/target/program/bureau}
 . "$root/samples/bank.sh"
+. "$root/samples/desk.sh"
 work=$(mktemp -d)
 trap 'rm -rf "$work"' EXIT
 cd "$work"
@@ -19,10 +21,10 @@ fail() {
 # ---- what is made
 
 sh "$root/scripts/pages" made
-for file in crates/cli_help/src/lib.rt docs/lentilpot.1 docs/lentilpot.bash; do
+for file in crates/cli_help/src/lib.rt docs/lentilpot.1 docs/lentilpot.bash crates/bureau_help/src/lib.rt docs/bureau.1 docs/bureau.bash; do
     cmp -s "made/$file" "$root/$file" || {
         diff "$root/$file" "made/$file" >&2 || true
-        fail "$file isn't what scripts/pages makes from docs/commands: run 'sh scripts/pages'"
+        fail "$file isn't what scripts/pages makes from docs/commands and docs/commands-bureau: run 'sh scripts/pages'"
     }
 done
 sed -n 's/^command //p' "$root/docs/commands" >commands
@@ -35,6 +37,7 @@ refused() { # TEXT SED
     rm -rf other
     mkdir -p other/scripts other/docs
     cp "$root/scripts/pages" other/scripts/
+    cp "$root/docs/commands-bureau" other/docs/
     sed "$2" "$root/docs/commands" >other/docs/commands
     cmp -s other/docs/commands "$root/docs/commands" && fail "the edit '$2' changes nothing"
     if sh other/scripts/pages >out 2>err; then fail "scripts/pages took a list after '$2'"; fi
@@ -79,6 +82,13 @@ while read -r line; do
     sed 's/\\f.//g; s/\\-/-/g' "$page" | grep -qxF -- "$line" || fail "docs/lentilpot.1 has no '$line'"
     squeezed "$root/README.md" | grep -qF -- " lentilpot $line " || fail "README.md has no 'lentilpot $line'"
 done <commands
+# The customer's program: each command with its words on its page and in README.md, and what the program prints is what was made.
+sed -n 's/^command //p' "$root/docs/commands-bureau" >bureau.commands
+[ "$(wc -l <bureau.commands)" -ge 6 ] || fail "docs/commands-bureau: expected six commands or more"
+while read -r line; do
+    sed 's/\\f.//g; s/\\-/-/g' "$root/docs/bureau.1" | grep -qxF -- "$line" || fail "docs/bureau.1 has no '$line'"
+    squeezed "$root/README.md" | grep -qF -- " bureau $line " || fail "README.md has no 'bureau $line'"
+done <bureau.commands
 # What a person would otherwise find out too late: in the help of the command and on the page.
 sed 's/\\f.//g; s/\\-/-/g; s/\\(aq/'"'"'/g; s/\\&//g; s/\\ / /g' "$page" | tr -s ' \n' ' ' >joined
 told_in() { # NAME TEXT
@@ -107,17 +117,19 @@ done
 for heading in NAME SYNOPSIS DESCRIPTION COMMANDS WORDS OPTIONS "EXIT STATUS" FILES EXAMPLES "SEE ALSO"; do
     grep -qx "\.SH $heading" "$page" || fail "docs/lentilpot.1 has no section $heading"
 done
-if command -v groff >/dev/null 2>&1; then
-    for device in ascii utf8; do
-        groff -man -ww -T$device "$page" >shown 2>warnings || fail "groff can't take docs/lentilpot.1"
-        [ ! -s warnings ] || { cat warnings >&2; fail "groff warns of docs/lentilpot.1"; }
-        [ -s shown ] || fail "groff shows nothing of docs/lentilpot.1"
-    done
-fi
-if command -v mandoc >/dev/null 2>&1; then
-    mandoc -Tlint -Wwarning "$page" >warnings 2>&1 || true
-    [ ! -s warnings ] || { cat warnings >&2; fail "mandoc warns of docs/lentilpot.1"; }
-fi
+for shown_page in "$page" "$root/docs/bureau.1"; do
+    if command -v groff >/dev/null 2>&1; then
+        for device in ascii utf8; do
+            groff -man -ww -T$device "$shown_page" >shown 2>warnings || fail "groff can't take $shown_page"
+            [ ! -s warnings ] || { cat warnings >&2; fail "groff warns of $shown_page"; }
+            [ -s shown ] || fail "groff shows nothing of $shown_page"
+        done
+    fi
+    if command -v mandoc >/dev/null 2>&1; then
+        mandoc -Tlint -Wwarning "$shown_page" >warnings 2>&1 || true
+        [ ! -s warnings ] || { cat warnings >&2; fail "mandoc warns of $shown_page"; }
+    fi
+done
 
 # ---- the completion
 
@@ -161,6 +173,15 @@ completes "" lentilpot order -- --later
 COMP_WORDS=(lentilpot order t 941017 A : B '""' @ ta) COMP_LINE='lentilpot order t 941017 A:B "" @ta' COMP_CWORD=9 COMP_POINT=37
 $by || true
 [ "${COMPREPLY[*]}" = @table ] || fail "completion of a word that was cut: got '${COMPREPLY[*]}'"
+. "$root/docs/bureau.bash"
+by=$(complete -p bureau | sed 's/.*-F \([^ ]*\).*/\1/')
+completes "make" bureau m
+completes "--area-a --ask --crlf --end --help" bureau make --
+completes "SKE SKH" bureau make d 941017 080000 C ""
+completes "folder table two words" bureau make d 941017 080000 C SKH f ""
+completes "table" bureau make d 941017 080000 C SKH f one two three ta
+completes "@table" bureau key d @ta
+completes "" bureau check d table 1 ""
 cd ..
 echo "pages: help, man page and completion of $count commands are what the list says"
 
@@ -172,13 +193,14 @@ prints() { # FILE WORDS..
     file=$1
     shift
     status=0
-    lentilpot "$@" >out 2>err </dev/null || status=$?
+    $asked "$@" >out 2>err </dev/null || status=$?
     { [ $status -eq 0 ] && [ ! -s err ] && cmp -s "$file" out; } || {
         diff "$file" out >&2 || true
         cat err >&2
-        fail "lentilpot $*: expected what help.rt holds, and status 0 (it was $status)"
+        fail "$asked $*: expected what help.rt holds, and status 0 (it was $status)"
     }
 }
+asked=lentilpot
 prints all help
 prints all --help
 prints all -h
@@ -195,3 +217,21 @@ prints number --version
 library=$(sed -n 's/^#define LP_VERSION  *"\{0,1\}\([0-9][0-9.]*\)"\{0,1\}.*/\1/p' "$root/include/lentilpot.h")
 [ -z "$library" ] || [ "lentilpot $library" = "$(cat number)" ] || fail "include/lentilpot.h: LP_VERSION is $library, and the program says '$(cat number)'"
 echo "pages: the program prints the help of $count commands as it was made"
+
+[ -x "$bureau_program" ] || fail "$bureau_program: expected the program"
+asked=bureau
+help=$root/crates/bureau_help/src/lib.rt
+text_of whole 1 >all
+prints all help
+prints all --help
+i=0
+while read -r line; do
+    i=$((i + 1))
+    text_of of $i >"of.$i"
+    prints "of.$i" "${line%% *}" --help
+    [ "$(text_of tell_words $i)" = "$line" ] || fail "bureau_help: tell_words $i isn't '$line'"
+done <bureau.commands
+text_of version 1 >number
+[ "$(cat number)" = "bureau $(sed -n 's/^version //p' "$root/docs/commands")" ] || fail "bureau_help: its version isn't that of docs/commands"
+prints number --version
+echo "pages: bureau prints the help of $i commands as it was made"

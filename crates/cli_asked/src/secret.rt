@@ -1,6 +1,7 @@
 // A key, a part or another value in hex digits: the word itself, the next line of standard input for `-`, or the first line of a file for
 // `@NAME`. On the command line every user of the machine can see it while the command runs.
 ghost use Rattle.io.specs.Counts.{Counts};
+use cli_terminal::program::Program;
 use cli_terminal::say;
 
 struct Byte {
@@ -50,9 +51,15 @@ fn line_of(fd: i32, width: usize) -> cli_words::Block {
     cli_words::hex_digits(cli_words::without_cr(&room[..n]), width)
 }
 
-fn told(value: cli_words::Block, name: &[u8], what: &[u8], source: &[u8]) -> cli_words::Block {
+fn told(
+    p: Program,
+    value: cli_words::Block,
+    name: &[u8],
+    what: &[u8],
+    source: &[u8],
+) -> cli_words::Block {
     if let cli_words::Block::Wrong = value {
-        say::err(b"lentilpot: ");
+        say::begin_line(p);
         say::err(name);
         say::err(b": expected ");
         say::err(what);
@@ -62,17 +69,24 @@ fn told(value: cli_words::Block, name: &[u8], what: &[u8], source: &[u8]) -> cli
     value
 }
 
-fn from_input(width: usize, name: &[u8], what: &[u8]) -> cli_words::Block {
+fn from_input(p: Program, width: usize, name: &[u8], what: &[u8]) -> cli_words::Block {
     if libc::isatty(libc::STDIN_FILENO) == 1 {
         say::err(name);
         say::err(b": ");
     }
     let value = line_of(libc::STDIN_FILENO, width);
-    told(value, name, what, b", as the next line of standard input")
+    told(
+        p,
+        value,
+        name,
+        what,
+        b", as the next line of standard input",
+    )
 }
 
 // A value that isn't one may be a file that can't be read.
 fn told_of_file(
+    p: Program,
     value: cli_words::Block,
     fd: i32,
     path: &[u8],
@@ -81,35 +95,46 @@ fn told_of_file(
 ) -> cli_words::Block {
     if let cli_words::Block::Wrong = value {
         if !is_readable(fd) {
-            say::trouble(b"can't read the file that holds a key", path);
+            say::trouble(p, b"can't read the file that holds a key", path);
             return value;
         }
     }
-    told(value, name, what, b", as the first line of its file")
+    told(p, value, name, what, b", as the first line of its file")
 }
 
-fn from_file(path: &[u8], width: usize, name: &[u8], what: &[u8]) -> cli_words::Block {
+fn from_file(p: Program, path: &[u8], width: usize, name: &[u8], what: &[u8]) -> cli_words::Block {
     let fd = os::open_read(path);
     if fd < 0 {
-        say::trouble(b"can't open the file that holds a key", path);
+        say::trouble(p, b"can't open the file that holds a key", path);
         return cli_words::Block::Wrong;
     }
     let value = line_of(fd, width);
-    let told = told_of_file(value, fd, path, name, what);
+    let told = told_of_file(p, value, fd, path, name, what);
     libc::close(fd);
     told
 }
 
-// A word as a value of that many hex digits.
-pub fn block(word: &[u8], width: usize, name: &[u8], what: &[u8]) -> cli_words::Block {
+// Whether a word says where its value is, and is not the value.
+pub fn is_elsewhere(word: &[u8]) -> bool {
     if word.len() == 0 {
-        return told(cli_words::Block::Wrong, name, what, b"");
+        return false;
     }
     if word[0] == b'@' {
-        return from_file(&word[1..], width, name, what);
+        return true;
+    }
+    text::same_bytes(word, b"-")
+}
+
+// A word as a value of that many hex digits.
+pub fn block(p: Program, word: &[u8], width: usize, name: &[u8], what: &[u8]) -> cli_words::Block {
+    if word.len() == 0 {
+        return told(p, cli_words::Block::Wrong, name, what, b"");
+    }
+    if word[0] == b'@' {
+        return from_file(p, &word[1..], width, name, what);
     }
     if text::same_bytes(word, b"-") {
-        return from_input(width, name, what);
+        return from_input(p, width, name, what);
     }
-    told(cli_words::hex_digits(word, width), name, what, b"")
+    told(p, cli_words::hex_digits(word, width), name, what, b"")
 }

@@ -2,6 +2,7 @@
 ghost use Prim.Native.Nat.{_≤_};
 ghost use lib.ListN.{length};
 ghost use Rattle.io.specs.Counts.{Counts};
+use cli_terminal::program::Program;
 use cli_terminal::say;
 
 // A name with an ending, at the start of the room; nothing where it does not fit, which names no file.
@@ -155,41 +156,41 @@ pub fn flush_folder(name: &[u8]) -> bool {
 }
 
 // Tells something of the file of that very name.
-pub fn tell(path: &[u8], what: &[u8]) {
-    say::of_file(path, b"", what);
+pub fn tell(p: Program, path: &[u8], what: &[u8]) {
+    say::of_file(p, path, b"", what);
 }
 
 // Tells what can't be done with NAME.new, and why.
-pub fn trouble_new(what: &[u8], name: &[u8]) {
-    say::trouble_beside(what, name, b".new");
+pub fn trouble_new(p: Program, what: &[u8], name: &[u8]) {
+    say::trouble_beside(p, what, name, b".new");
 }
 
 // Opens a file to read it, or says what is the matter.
-pub fn open_told(what: &[u8], path: &[u8]) -> i32 {
+pub fn open_told(p: Program, what: &[u8], path: &[u8]) -> i32 {
     let fd = os::open_read(path);
     if fd < 0 {
-        say::trouble(what, path);
+        say::trouble(p, what, path);
     }
     fd
 }
 
 // One byte more of a file that should end here, or what is the matter; then closes it.
-pub fn read_over(fd: i32, what: &[u8], path: &[u8]) -> isize {
+pub fn read_over(p: Program, fd: i32, what: &[u8], path: &[u8]) -> isize {
     let mut over = [0u8; 1];
     let more = libc::read(fd, &mut over);
     if more < 0 {
-        say::trouble(what, path);
+        say::trouble(p, what, path);
     }
     libc::close(fd);
     more
 }
 
 // Whether nothing was seen of a name because there is nothing.
-pub fn is_missing(what: &[u8], name: &[u8]) -> bool {
+pub fn is_missing(p: Program, what: &[u8], name: &[u8]) -> bool {
     if os::errno() == libc::ENOENT {
         return true;
     }
-    say::trouble(what, name);
+    say::trouble(p, what, name);
     false
 }
 
@@ -238,4 +239,64 @@ pub fn named_now(fd: i32, name: &[u8], room: &mut [u8]) -> usize
         return beside(room, name, b"");
     }
     beside(room, &whole[0..k], b"")
+}
+
+// ---- a file without a name, for what is said later
+
+// Makes one, where NAME's own folder is; -2 and what is the matter where it can't be made.
+pub fn nameless(p: Program, what: &[u8], name: &[u8]) -> i32 {
+    let mut path = io::buffer();
+    let n = beside(&mut path, name, b".XXXXXX");
+    unnamed(p, what, name, &mut path[..n])
+}
+
+fn unnamed(p: Program, what: &[u8], name: &[u8], path: &mut [u8]) -> i32 {
+    let fd = os::create_temp(path);
+    if fd < 0 {
+        say::trouble(p, what, name);
+        return -2;
+    }
+    os::unlink(path);
+    fd
+}
+
+// One part of it; whether there may be more.
+enum Copied {
+    More,
+    End,
+    Unread,
+    Unwritten,
+}
+
+fn copy_part(fd: i32) -> Copied {
+    let mut part = io::large_buffer();
+    let got = libc::read(fd, &mut part);
+    if got < 0 {
+        return Copied::Unread;
+    }
+    if got == 0 {
+        return Copied::End;
+    }
+    let n = io::count(got, &part);
+    if say::out(&part[..n]) {
+        return Copied::More;
+    }
+    Copied::Unwritten
+}
+
+// Whether all that was written to a file is now on standard output too.
+pub fn is_copied(fd: i32) -> bool {
+    libc::lseek(fd, 0, libc::SEEK_SET);
+    let mut turns = u64::MAX;
+    while turns > 0 {
+        let part = copy_part(fd);
+        match part {
+            Copied::More => {}
+            Copied::End => return true,
+            Copied::Unread => return false,
+            Copied::Unwritten => return false,
+        }
+        turns -= 1;
+    }
+    false
 }

@@ -4,6 +4,7 @@ ghost use mathlib.Core.Path.{_≡_};
 ghost use Rattle.cli_days.specs.Far.{isFar};
 use calendar::Date;
 use cli_terminal::options;
+use cli_terminal::program::Program;
 use cli_terminal::say;
 use cli_terminal::status::Status;
 
@@ -36,7 +37,8 @@ fn is_far(day: Date, today: Date) -> bool
 fn tell_far(day: Date, today: Date) {
     let given = six_digits(today.yymmdd);
     let held = six_digits(day.yymmdd);
-    say::err(b"lentilpot: DATE: ");
+    say::begin_line(Program::Lentilpot);
+    say::err(b"DATE: ");
     say::err(&given);
     say::err(b" is more than 31 days after the table's day ");
     say::err(&held);
@@ -91,9 +93,9 @@ fn answer_day(day: Date, today: Date, time: u32) -> bool {
 // The answer line of a call on a table of that day.
 pub fn answer(day: Date, today: Date, time: u32, refusal: u32) -> Status {
     if refusal != 4 {
-        return say::answer(refusal);
+        return say::answer(Program::Lentilpot, refusal);
     }
-    say::refused_as(answer_day(day, today, time))
+    say::refused_as(Program::Lentilpot, answer_day(day, today, time))
 }
 
 // The first of the holidays that isn't a real date.
@@ -112,9 +114,12 @@ fn first_unreal(dates: &[u32]) -> u32 {
 // The answer line of a set-up.
 pub fn answer_setup(dates: &[u32], refusal: u32) -> Status {
     if refusal != 4 {
-        return say::answer(refusal);
+        return say::answer(Program::Lentilpot, refusal);
     }
-    say::refused_as(unreal(first_unreal(dates), b", a holiday, isn't a real date\n"))
+    say::refused_as(
+        Program::Lentilpot,
+        unreal(first_unreal(dates), b", a holiday, isn't a real date\n"),
+    )
 }
 
 // ---- refusal 12
@@ -124,5 +129,5 @@ pub fn answer_changeover(kind: &[u8], last: Date) -> Status {
     let is_written = say::out(b"refused 12: the changeover from the previous ")
         && say::out(kind)
         && say::out(b" key is not past; its last day is ");
-    say::refused_as(with_day(is_written, last))
+    say::refused_as(Program::Lentilpot, with_day(is_written, last))
 }

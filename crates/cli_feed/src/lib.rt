@@ -1,8 +1,8 @@
 // The file, part by part: each part is taken reply by reply, and each reply is written as it comes.
 ghost use Prim.Native.Nat.{_≤_};
 use cli_passed::Passed;
+use cli_terminal::program::Program;
 use cli_terminal::say;
-use libc::STDERR_FILENO;
 
 // Where the file stands: going on, closed by a reply, at its end, or stopped by trouble that was told.
 enum State {
@@ -117,18 +117,9 @@ fn pump(
     stopped(session, passed)
 }
 
-// On a terminal, a line that is written over after each 4 MB.
 fn progress(before: Passed, fed: Fed) {
     let passed = fed.passed;
-    let now = passed.bytes;
-    if before.bytes / 4000000 == now / 4000000 {
-        return;
-    }
-    if libc::isatty(STDERR_FILENO) == 1 {
-        say::err(b"\r");
-        io::print_decimal(STDERR_FILENO, now / 1000000);
-        say::err(b" MB \r");
-    }
+    say::progress(before.bytes, passed.bytes);
 }
 
 // One read of the file, taken whole.
@@ -145,7 +136,11 @@ fn turn(
 ) -> Fed {
     let got = libc::read(input, part);
     if got < 0 {
-        say::trouble(b"nothing was changed: can't read the file to receive", file);
+        say::trouble(
+            Program::Lentilpot,
+            b"nothing was changed: can't read the file to receive",
+            file,
+        );
         return stopped(s, passed);
     }
     if got == 0 {
@@ -259,10 +254,15 @@ fn plain_step(
 // What a read answered, written.
 fn is_answered(out: i32, replies: &[u8], a: calls::Answer, room: &[u8]) -> bool {
     if a.refusal != 0 {
-        say::of_file(replies, b"", b"nothing was changed: a read was refused\n");
+        say::of_file(
+            Program::Lentilpot,
+            replies,
+            b"",
+            b"nothing was changed: a read was refused\n",
+        );
         return false;
     }
-    cli_replies::is_put(out, replies, room, a.length)
+    cli_replies::is_put(Program::Lentilpot, out, replies, room, a.length)
 }
 
 // ---- explanations

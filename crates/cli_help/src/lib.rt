@@ -1,4 +1,6 @@
 // Made by scripts/pages from docs/commands: change that and not this. What the program prints for help.
+use cli_terminal::options;
+use cli_terminal::program::Program;
 use cli_terminal::say;
 
 // The number of the command that a word names, in the order of the list; 0 for none.
@@ -33,6 +35,7 @@ pub fn command_of(word: &[u8]) -> u32 {
 // The commands' names, for the line that says what was expected.
 pub fn tell_names() {
     say::expected(
+        Program::Lentilpot,
         b"COMMAND",
         b"setup, add, key, order, receive, show, explain or help",
     );
@@ -56,6 +59,15 @@ pub fn tell_words(command: u32) {
         7 => say::err(b"explain REPLIES\n"),
         _ => say::err(b"help [COMMAND]\n"),
     }
+}
+
+// Whether there are as many words as the command takes, or what was expected.
+pub fn are_as_many(command: u32, low: usize, high: usize) -> bool {
+    if options::are_as_many(Program::Lentilpot, low, high) {
+        return true;
+    }
+    tell_words(command);
+    false
 }
 
 // The help of one command, to standard output; whether it could be written.
@@ -476,5 +488,5 @@ Exit status  0  served, and every reply is K
 }
 
 pub fn version() -> bool {
-    say::out(b"lentilpot 1.4\n")
+    say::out(b"lentilpot 1.5\n")
 }

@@ -1,9 +1,10 @@
 // The file of holidays that 'setup' is given.
 use cli_terminal::options;
+use cli_terminal::program::Program;
 use cli_terminal::say;
 
 fn bad_line(path: &[u8], line: u32) {
-    cli_beside::tell(path, b"line ");
+    cli_beside::tell(Program::Lentilpot, path, b"line ");
     io::print_decimal(libc::STDERR_FILENO, line as u64);
     say::err(b" isn't a date: expected one yymmdd a line\n");
 }
@@ -23,7 +24,7 @@ pub fn asked(i: usize) -> cli_words::Dates {
         return cli_words::holidays(b"");
     }
     let mut path = io::buffer();
-    let n = cli_names::of(i, b"HOLIDAYS", &mut path);
+    let n = cli_names::of(Program::Lentilpot, i, b"HOLIDAYS", &mut path);
     if n == 0 {
         return no_dates();
     }
@@ -32,6 +33,7 @@ pub fn asked(i: usize) -> cli_words::Dates {
 
 fn read_holidays(path: &[u8]) -> cli_words::Dates {
     let fd = cli_beside::open_told(
+        Program::Lentilpot,
         b"can't open the holidays, expected a file with one yymmdd a line",
         path,
     );
@@ -53,12 +55,14 @@ fn read_holidays(path: &[u8]) -> cli_words::Dates {
 // Whether all of the file was read.
 fn is_end(path: &[u8], fd: i32) -> bool {
     let more = cli_beside::read_over(
+        Program::Lentilpot,
         fd,
         b"can't read the holidays, expected a file with one yymmdd a line",
         path,
     );
     if 0 < more {
         cli_beside::tell(
+            Program::Lentilpot,
             path,
             b"too long for holidays: expected at most 200 lines of one yymmdd each\n",
         );

@@ -2,46 +2,16 @@
 mod holidays;
 mod limits;
 
-use cli_files::Seen;
-use cli_run::Run;
-use cli_table::Saved;
+use cli_held::Held;
 use cli_terminal::options;
+use cli_terminal::program::Program;
 use cli_terminal::say;
 use cli_terminal::status::Status;
 
-// A table that is taken, and what was seen of it then.
-struct Held {
-    run: Run,
-    seen: Seen,
-}
-
-fn not_held() -> Held {
-    Held {
-        run: cli_run::nobody(),
-        seen: cli_files::of_name(b""),
-    }
-}
-
 // Saves the table that a served call left, and answers.
 fn saved(table: &[u8], t: &[u8], h: Held) -> Status {
-    let r = h.run;
-    let seen = h.seen;
-    let fd = cli_table::begin(table);
-    if fd < 0 {
-        cli_lock::release(table, r);
-        return Status::Trouble;
-    }
-    if !cli_lock::is_held(table, r) {
-        cli_table::give_up(table, fd);
-        return Status::Trouble;
-    }
-    let saved = cli_table::save(table, fd, t, seen);
-    if let Saved::Not = saved {
-        cli_table::give_up(table, fd);
-    }
-    cli_lock::release(table, r);
-    if let Saved::Whole = saved {
-        return say::answer(0);
+    if cli_held::is_saved(Program::Lentilpot, table, t, h) {
+        return say::answer(Program::Lentilpot, 0);
     }
     Status::Trouble
 }
@@ -49,37 +19,37 @@ fn saved(table: &[u8], t: &[u8], h: Held) -> Status {
 // Answers a call on that day that was refused.
 fn refused(table: &[u8], t: &[u8], h: Held, today: calendar::Date, refusal: u32) -> Status {
     let r = h.run;
-    cli_lock::release(table, r);
+    cli_lock::release(Program::Lentilpot, table, r);
     cli_days::answer(table::day(t), today, 0, refusal)
 }
 
 // Takes the table and loads it for a call on that day; the lock stays only where that succeeds.
 fn loaded(table: &[u8], t: &mut [u8], today: calendar::Date) -> Held {
-    let r = cli_lock::take(table);
+    let h = cli_held::take(Program::Lentilpot, table);
+    let r = h.run;
     if r.process == 0 {
-        return not_held();
+        return h;
     }
-    let seen = cli_files::of_name(table);
-    if cli_table::load(table, t) {
+    if cli_table::load(Program::Lentilpot, table, t) {
         if cli_days::is_meant(t, today) {
-            return Held { run: r, seen };
+            return h;
         }
     }
-    cli_lock::release(table, r);
-    not_held()
+    cli_lock::release(Program::Lentilpot, table, r);
+    cli_held::not_held()
 }
 
 // ---- setup
 
 pub fn setup() -> Status {
-    if !cli_asked::are_as_many(1, 9, 10) {
+    if !cli_help::are_as_many(1, 9, 10) {
         return Status::Trouble;
     }
-    if !options::are_taken(false, false) {
+    if !options::are_taken(Program::Lentilpot, b"") {
         return Status::Trouble;
     }
     let mut table = io::buffer();
-    let n = cli_names::of_table(2, &mut table);
+    let n = cli_names::of_kept(Program::Lentilpot, 2, b"TABLE", &mut table);
     if n == 0 {
         return Status::Trouble;
     }
@@ -87,21 +57,28 @@ pub fn setup() -> Status {
 }
 
 fn setup_words(table: &[u8]) -> Status {
-    let bank = cli_asked::who(3, b"BANK");
+    let bank = cli_asked::who(Program::Lentilpot, 3, b"BANK", b"QUALIFIER");
     if !bank.good {
         return Status::Trouble;
     }
-    let software = cli_asked::software(5);
+    let software = cli_asked::software(Program::Lentilpot, 5);
     if !software.good {
         return Status::Trouble;
     }
-    let cli_words::Number::Is(floor) = cli_asked::digits(6, 1, 9, b"FLOOR", b"110 or 120") else {
+    let cli_words::Number::Is(floor) = cli_asked::digits(
+        Program::Lentilpot,
+        6,
+        1,
+        9,
+        b"FLOOR",
+        b"110 or 120",
+    ) else {
         return Status::Trouble;
     };
-    let cli_words::Block::Of(key) = cli_asked::key(7, b"K") else {
+    let cli_words::Block::Of(key) = cli_asked::key(Program::Lentilpot, 7, b"K") else {
         return Status::Trouble;
     };
-    let cli_words::Block::Of(seed) = cli_asked::key(8, b"V") else {
+    let cli_words::Block::Of(seed) = cli_asked::key(Program::Lentilpot, 8, b"V") else {
         return Status::Trouble;
     };
     let d = holidays::asked(9);
@@ -121,16 +98,16 @@ fn setup_words(table: &[u8]) -> Status {
 }
 
 fn set_up(table: &[u8], s: table_calls::Setting, d: cli_words::Dates) -> Status {
-    let r = cli_lock::take(table);
+    let h = cli_held::take(Program::Lentilpot, table);
+    let r = h.run;
     if r.process == 0 {
         return Status::Trouble;
     }
-    let seen = cli_files::of_name(table);
-    if !cli_table::is_free(table) {
-        cli_lock::release(table, r);
+    if !cli_table::is_free(Program::Lentilpot, table) {
+        cli_lock::release(Program::Lentilpot, table, r);
         return Status::Trouble;
     }
-    set_up_held(table, Held { run: r, seen }, s, d)
+    set_up_held(table, h, s, d)
 }
 
 fn set_up_held(table: &[u8], h: Held, s: table_calls::Setting, d: cli_words::Dates) -> Status {
@@ -141,7 +118,7 @@ fn set_up_held(table: &[u8], h: Held, s: table_calls::Setting, d: cli_words::Dat
     if refusal == 0 {
         return saved(table, &t, h);
     }
-    cli_lock::release(table, r);
+    cli_lock::release(Program::Lentilpot, table, r);
     if refusal == 11 {
         return limits::answer_setup(s, d.count);
     }
@@ -163,18 +140,18 @@ fn length_of(i: usize) -> cli_words::Number {
     if options::count() <= i {
         return cli_words::Number::Is(0);
     }
-    cli_asked::digits(i, 1, 9, b"LENGTH", b"days, 1 to 60")
+    cli_asked::digits(Program::Lentilpot, i, 1, 9, b"LENGTH", b"days, 1 to 60")
 }
 
 pub fn add() -> Status {
-    if !cli_asked::are_as_many(2, 13, 14) {
+    if !cli_help::are_as_many(2, 13, 14) {
         return Status::Trouble;
     }
-    if !options::are_taken(true, false) {
+    if !options::are_taken(Program::Lentilpot, b"--later ") {
         return Status::Trouble;
     }
     let mut table = io::buffer();
-    let n = cli_names::of_table(2, &mut table);
+    let n = cli_names::of_kept(Program::Lentilpot, 2, b"TABLE", &mut table);
     if n == 0 {
         return Status::Trouble;
     }
@@ -186,13 +163,13 @@ fn add_words(table: &[u8]) -> Status {
     if !k.good {
         return Status::Trouble;
     }
-    let cli_words::Number::Is(types) = cli_asked::types(10) else {
+    let cli_words::Number::Is(types) = cli_asked::types(Program::Lentilpot, 10) else {
         return Status::Trouble;
     };
-    let cli_words::Number::Is(agreed) = cli_asked::choice(11, b"AGREED") else {
+    let cli_words::Number::Is(agreed) = cli_asked::choice(Program::Lentilpot, 11, b"AGREED") else {
         return Status::Trouble;
     };
-    let cli_words::Number::Is(leave) = cli_asked::choice(12, b"LEAVE") else {
+    let cli_words::Number::Is(leave) = cli_asked::choice(Program::Lentilpot, 12, b"LEAVE") else {
         return Status::Trouble;
     };
     let cli_words::Number::Is(days) = length_of(13) else {
@@ -234,7 +211,7 @@ fn add_to(table: &[u8], a: table_calls::Adding) -> Status {
         return saved(table, &t, h);
     }
     if refusal == 11 {
-        cli_lock::release(table, r);
+        cli_lock::release(Program::Lentilpot, table, r);
         return limits::answer_add(a);
     }
     refused(table, &t, h, today, refusal)
@@ -264,23 +241,23 @@ fn no_key() -> Entered {
 
 // DATE IDENTITY QUALIFIER PART1 PART2 CHECK GENERATION, from word 3 on.
 fn asked_key() -> Entered {
-    let cli_words::Number::Is(day) = cli_asked::date(3) else {
+    let cli_words::Number::Is(day) = cli_asked::date(Program::Lentilpot, 3) else {
         return no_key();
     };
-    let customer = cli_asked::who(4, b"IDENTITY");
+    let customer = cli_asked::who(Program::Lentilpot, 4, b"IDENTITY", b"QUALIFIER");
     if !customer.good {
         return no_key();
     }
-    let cli_words::Block::Of(part1) = cli_asked::key(6, b"PART1") else {
+    let cli_words::Block::Of(part1) = cli_asked::key(Program::Lentilpot, 6, b"PART1") else {
         return no_key();
     };
-    let cli_words::Block::Of(part2) = cli_asked::key(7, b"PART2") else {
+    let cli_words::Block::Of(part2) = cli_asked::key(Program::Lentilpot, 7, b"PART2") else {
         return no_key();
     };
-    let cli_words::Block::Of(check) = cli_asked::check(8) else {
+    let cli_words::Block::Of(check) = cli_asked::check(Program::Lentilpot, 8) else {
         return no_key();
     };
-    let cli_words::Number::Is(generation) = cli_asked::generation(9) else {
+    let cli_words::Number::Is(generation) = cli_asked::generation(Program::Lentilpot, 9) else {
         return no_key();
     };
     let who = customer.who;
@@ -299,14 +276,14 @@ fn asked_key() -> Entered {
 }
 
 pub fn key() -> Status {
-    if !cli_asked::are_as_many(3, 10, 10) {
+    if !cli_help::are_as_many(3, 10, 10) {
         return Status::Trouble;
     }
-    if !options::are_taken(true, false) {
+    if !options::are_taken(Program::Lentilpot, b"--later ") {
         return Status::Trouble;
     }
     let mut table = io::buffer();
-    let n = cli_names::of_table(2, &mut table);
+    let n = cli_names::of_kept(Program::Lentilpot, 2, b"TABLE", &mut table);
     if n == 0 {
         return Status::Trouble;
     }
@@ -332,7 +309,7 @@ fn enter(table: &[u8], e: table_calls::Entering) -> Status {
         return saved(table, &t, h);
     }
     if refusal == 12 {
-        cli_lock::release(table, r);
+        cli_lock::release(Program::Lentilpot, table, r);
         return limits::answer_transport(&t, who);
     }
     refused(table, &t, h, today, refusal)
@@ -341,14 +318,14 @@ fn enter(table: &[u8], e: table_calls::Entering) -> Status {
 // ---- order
 
 pub fn order() -> Status {
-    if !cli_asked::are_as_many(4, 7, 7) {
+    if !cli_help::are_as_many(4, 7, 7) {
         return Status::Trouble;
     }
-    if !options::are_taken(true, false) {
+    if !options::are_taken(Program::Lentilpot, b"--later ") {
         return Status::Trouble;
     }
     let mut table = io::buffer();
-    let n = cli_names::of_table(2, &mut table);
+    let n = cli_names::of_kept(Program::Lentilpot, 2, b"TABLE", &mut table);
     if n == 0 {
         return Status::Trouble;
     }
@@ -356,14 +333,14 @@ pub fn order() -> Status {
 }
 
 fn order_words(table: &[u8]) -> Status {
-    let cli_words::Number::Is(day) = cli_asked::date(3) else {
+    let cli_words::Number::Is(day) = cli_asked::date(Program::Lentilpot, 3) else {
         return Status::Trouble;
     };
-    let customer = cli_asked::who(4, b"IDENTITY");
+    let customer = cli_asked::who(Program::Lentilpot, 4, b"IDENTITY", b"QUALIFIER");
     if !customer.good {
         return Status::Trouble;
     }
-    let cli_words::Block::Of(clock) = cli_asked::key(6, b"CLOCK") else {
+    let cli_words::Block::Of(clock) = cli_asked::key(Program::Lentilpot, 6, b"CLOCK") else {
         return Status::Trouble;
     };
     let who = customer.who;
@@ -386,7 +363,7 @@ fn order_in(table: &[u8], o: table_calls::Ordering) -> Status {
         return saved(table, &t, h);
     }
     if refusal == 12 {
-        cli_lock::release(table, r);
+        cli_lock::release(Program::Lentilpot, table, r);
         return limits::answer_working(&t, who);
     }
     refused(table, &t, h, today, refusal)

@@ -1,45 +1,33 @@
 // What a refusal 11 or 12 of a command is about: the word that is outside its limits, or the changeover that is not past.
+use cli_terminal::program::Program;
 use cli_terminal::say;
 use cli_terminal::status::Status;
 
 // ---- refusal 11
 
-// An identity or a bank with its qualifier.
-fn answer_who(name: &[u8], who: [u8; 25]) -> Status {
-    if !text::all_field_characters(&who[17..25]) {
-        return say::answer_limits(
-            b"QUALIFIER",
-            b"up to 8 of A-Z, 0-9, blank and %()*+,-./:;<=>",
-        );
-    }
-    say::answer_limits(
-        name,
-        b"up to 17 of A-Z, 0-9, blank and %()*+,-./:;<=>, not all blank",
-    )
-}
-
 fn answer_holidays(count: usize) -> Status {
     if 200 < count {
-        return say::answer_limits(b"HOLIDAYS", b"at most 200 days");
+        return say::answer_limits(Program::Lentilpot, b"HOLIDAYS", b"at most 200 days");
     }
-    say::answer_limits(b"HOLIDAYS", b"rising days, each of them once")
+    say::answer_limits(
+        Program::Lentilpot,
+        b"HOLIDAYS",
+        b"rising days, each of them once",
+    )
 }
 
 // Of a set-up: the words in the order of the call's own tests.
 pub fn answer_setup(s: table_calls::Setting, count: usize) -> Status {
     let bank = s.bank;
     if !customer::is_sound_who(&bank) {
-        return answer_who(b"BANK", bank);
+        return cli_asked::answer_who(Program::Lentilpot, b"BANK", b"QUALIFIER", bank);
     }
     let software = s.software;
     if !customer::is_sound_name(&software) {
-        return say::answer_limits(
-            b"SOFTWARE",
-            b"up to 16 of A-Z, 0-9, blank and %()*+,-./:;<=>, not all blank",
-        );
+        return cli_asked::answer_software(Program::Lentilpot);
     }
     if !refusals::is_floor(s.floor) {
-        return say::answer_limits(b"FLOOR", b"110 or 120");
+        return say::answer_limits(Program::Lentilpot, b"FLOOR", b"110 or 120");
     }
     answer_holidays(count)
 }
@@ -48,9 +36,9 @@ pub fn answer_setup(s: table_calls::Setting, count: usize) -> Status {
 pub fn answer_add(a: table_calls::Adding) -> Status {
     let who = a.who;
     if !customer::is_sound_who(&who) {
-        return answer_who(b"IDENTITY", who);
+        return cli_asked::answer_who(Program::Lentilpot, b"IDENTITY", b"QUALIFIER", who);
     }
-    say::answer_limits(b"LENGTH", b"days, 1 to 60")
+    say::answer_limits(Program::Lentilpot, b"LENGTH", b"days, 1 to 60")
 }
 
 // ---- refusal 12
@@ -58,7 +46,7 @@ pub fn answer_add(a: table_calls::Adding) -> Status {
 fn answer_pair(kind: &[u8], k: customer::KeyPair) -> Status {
     let previous = k.previous;
     let customer::Previous::Held(c) = previous else {
-        return say::answer(12);
+        return say::answer(Program::Lentilpot, 12);
     };
     let last = c.last;
     cli_days::answer_changeover(kind, last)
@@ -67,7 +55,7 @@ fn answer_pair(kind: &[u8], k: customer::KeyPair) -> Status {
 pub fn answer_transport(t: &[u8], who: [u8; 25]) -> Status {
     let place = table::find(t, who);
     let table::Found::At(i) = place else {
-        return say::answer(12);
+        return say::answer(Program::Lentilpot, 12);
     };
     let c = table::load(t, i);
     let k = c.transport;
@@ -77,7 +65,7 @@ pub fn answer_transport(t: &[u8], who: [u8; 25]) -> Status {
 pub fn answer_working(t: &[u8], who: [u8; 25]) -> Status {
     let place = table::find(t, who);
     let table::Found::At(i) = place else {
-        return say::answer(12);
+        return say::answer(Program::Lentilpot, 12);
     };
     let c = table::load(t, i);
     let k = c.working;

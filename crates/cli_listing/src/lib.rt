@@ -1,6 +1,7 @@
 // The listing, once the table is saved and the replies have their name: K or E and the code of each, or, where they are asked for, the
 // explanations. These are kept meanwhile in a file without a name, so that a run that is cut off leaves nothing of them.
 use cli_terminal::options;
+use cli_terminal::program::Program;
 use cli_terminal::say;
 use cli_terminal::status::Status;
 
@@ -9,22 +10,11 @@ pub fn begin(replies: &[u8]) -> i32 {
     if !options::is_given(b"--explain") {
         return -1;
     }
-    let mut name = io::buffer();
-    let n = cli_beside::beside(&mut name, replies, b".XXXXXX");
-    nameless(&mut name[..n], replies)
-}
-
-fn nameless(name: &mut [u8], replies: &[u8]) -> i32 {
-    let fd = os::create_temp(name);
-    if fd < 0 {
-        say::trouble(
-            b"nothing was changed: can't make a file for the explanations beside the replies",
-            replies,
-        );
-        return -2;
-    }
-    os::unlink(name);
-    fd
+    cli_beside::nameless(
+        Program::Lentilpot,
+        b"nothing was changed: can't make a file for the explanations beside the replies",
+        replies,
+    )
 }
 
 // ---- after the save
@@ -41,6 +31,7 @@ fn tell_none(file: &[u8], today: calendar::Date) {
     let mut six = [0u8; 6];
     text::write_number(&mut six, today.yymmdd as u64);
     cli_beside::tell(
+        Program::Lentilpot,
         file,
         b"no message stood in it, so there is no reply; the table's day is now ",
     );
@@ -95,6 +86,7 @@ fn listed_one(fd: i32, replies: &[u8], is_shown: bool, l: Listed) -> Listed {
         Next::End => ended(l, true),
         Next::Unread => {
             say::trouble(
+                Program::Lentilpot,
                 b"the table was saved and the replies are in this file, which can't be read back",
                 replies,
             );
@@ -102,6 +94,7 @@ fn listed_one(fd: i32, replies: &[u8], is_shown: bool, l: Listed) -> Listed {
         }
         Next::Unwritten => {
             say::of_file(
+                Program::Lentilpot,
                 replies,
                 b"",
                 b"the table was saved and the replies are in this file; they can't be listed: ",
@@ -187,54 +180,14 @@ fn is_rest_read(fd: i32, kind: u8) -> bool {
 
 // ---- the explanations
 
-// One part of the explanations; whether there may be more.
-enum Copied {
-    More,
-    End,
-    Unread,
-    Unwritten,
-}
-
-fn copy_part(fd: i32) -> Copied {
-    let mut part = io::large_buffer();
-    let got = libc::read(fd, &mut part);
-    if got < 0 {
-        return Copied::Unread;
-    }
-    if got == 0 {
-        return Copied::End;
-    }
-    let n = io::count(got, &part);
-    if say::out(&part[..n]) {
-        return Copied::More;
-    }
-    Copied::Unwritten
-}
-
-// Whether all the explanations were listed.
-fn is_copied(fd: i32) -> bool {
-    let mut turns = u64::MAX;
-    while turns > 0 {
-        let part = copy_part(fd);
-        match part {
-            Copied::More => {}
-            Copied::End => return true,
-            Copied::Unread => return false,
-            Copied::Unwritten => return false,
-        }
-        turns -= 1;
-    }
-    false
-}
-
 fn is_explained(explanations: i32, replies: &[u8]) -> bool {
     if explanations < 0 {
         return true;
     }
-    libc::lseek(explanations, 0, libc::SEEK_SET);
-    let is_whole = is_copied(explanations);
+    let is_whole = cli_beside::is_copied(explanations);
     if !is_whole {
         say::trouble(
+            Program::Lentilpot,
             b"the table was saved and the replies are in this file; the explanations can't be listed",
             replies,
         );

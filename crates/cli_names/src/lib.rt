@@ -1,6 +1,7 @@
 // Names of files, made whole at the start: what is told and kept of them is then right from any folder, and begins with no dash.
 ghost use Rattle.io.specs.Counts.{Counts};
 use cli_terminal::options;
+use cli_terminal::program::Program;
 use cli_terminal::say;
 
 // The folder that the program runs in, and a slash.
@@ -23,13 +24,14 @@ fn is_whole(word: &[u8]) -> bool {
 }
 
 // A name below the folder that the program runs in, or what is the matter.
-fn below_here(label: &[u8], word: &[u8], room: &mut [u8]) -> usize
+fn below_here(p: Program, label: &[u8], word: &[u8], room: &mut [u8]) -> usize
     ensures { λ r. ⌜ Counts r (now (room .exit)) ⌝ }
 {
     let mut folder = io::buffer();
     let n = here(&mut folder);
     if n == 0 {
         say::expected(
+            p,
             label,
             b"a name that begins with '/', since the system doesn't tell which folder this is",
         );
@@ -37,36 +39,40 @@ fn below_here(label: &[u8], word: &[u8], room: &mut [u8]) -> usize
     }
     let k = cli_beside::beside(room, &folder[..n], word);
     if k == 0 {
-        say::expected(label, b"a name of at most 4000 bytes, its folders counted");
+        say::expected(
+            p,
+            label,
+            b"a name of at most 4000 bytes, its folders counted",
+        );
     }
     k
 }
 
 // The whole name that a word gives, at the start of the room, or nothing and what is the matter.
-fn of_word(label: &[u8], word: &[u8], room: &mut [u8]) -> usize
+fn of_word(p: Program, label: &[u8], word: &[u8], room: &mut [u8]) -> usize
     ensures { λ r. ⌜ Counts r (now (room .exit)) ⌝ }
 {
-    if !cli_asked::is_file(label, word) {
+    if !cli_asked::is_file(p, label, word) {
         return 0;
     }
     if is_whole(word) {
         return cli_beside::beside(room, word, b"");
     }
-    below_here(label, word, room)
+    below_here(p, label, word, room)
 }
 
 // Word i as a file's whole name, or nothing and what is the matter.
-pub fn of(i: usize, label: &[u8], room: &mut [u8]) -> usize
+pub fn of(p: Program, i: usize, label: &[u8], room: &mut [u8]) -> usize
     ensures { λ r. ⌜ Counts r (now (room .exit)) ⌝ }
 {
     let mut word = io::buffer();
     let n = options::word(i, &mut word);
     let mut name = [0u8; 8192];
-    let k = of_word(label, &word[..n], &mut name);
+    let k = of_word(p, label, &word[..n], &mut name);
     if k == 0 {
         return 0;
     }
-    if !cli_asked::is_file(label, &name[..k]) {
+    if !cli_asked::is_file(p, label, &name[..k]) {
         return 0;
     }
     cli_beside::beside(room, &name[..k], b"")
@@ -86,24 +92,24 @@ fn own_length(name: &[u8]) -> usize {
     n
 }
 
-// Whether the files beside a name have names that a folder takes, of at most 255 bytes: those of a table end in up to 11 bytes more, those
-// of replies in up to 17.
-fn is_short(label: &[u8], name: &[u8], most: usize, what: &[u8]) -> bool {
+// Whether the files beside a name have names that a folder takes, of at most 255 bytes.
+fn is_short(p: Program, label: &[u8], name: &[u8], most: usize, what: &[u8]) -> bool {
     let is_so = own_length(name) <= most;
     if !is_so {
-        say::expected(label, what);
+        say::expected(p, label, what);
     }
     is_so
 }
 
-// Word i as the name of a table.
-pub fn of_table(i: usize, room: &mut [u8]) -> usize
+// Word i as the name of a table or a desk, which gets endings of up to 11 bytes.
+pub fn of_kept(p: Program, i: usize, label: &[u8], room: &mut [u8]) -> usize
     ensures { λ r. ⌜ Counts r (now (room .exit)) ⌝ }
 {
     let mut name = io::buffer();
-    let n = of(i, b"TABLE", &mut name);
+    let n = of(p, i, label, &mut name);
     if !is_short(
-        b"TABLE",
+        p,
+        label,
         &name[..n],
         244,
         b"the name of a file, of at most 244 bytes past its folder",
@@ -113,14 +119,15 @@ pub fn of_table(i: usize, room: &mut [u8]) -> usize
     cli_beside::beside(room, &name[..n], b"")
 }
 
-// Word i as the name of replies to make.
-pub fn of_replies(i: usize, room: &mut [u8]) -> usize
+// Word i as the name of replies or messages to make, which get endings of up to 17 bytes.
+pub fn of_made(p: Program, i: usize, label: &[u8], room: &mut [u8]) -> usize
     ensures { λ r. ⌜ Counts r (now (room .exit)) ⌝ }
 {
     let mut name = io::buffer();
-    let n = of(i, b"REPLIES", &mut name);
+    let n = of(p, i, label, &mut name);
     if !is_short(
-        b"REPLIES",
+        p,
+        label,
         &name[..n],
         238,
         b"the name of a file, of at most 238 bytes past its folder",
@@ -131,7 +138,7 @@ pub fn of_replies(i: usize, room: &mut [u8]) -> usize
 }
 
 // The same of the file to receive, of which `-` is standard input.
-pub fn of_input(i: usize, room: &mut [u8]) -> usize
+pub fn of_input(p: Program, i: usize, room: &mut [u8]) -> usize
     ensures { λ r. ⌜ Counts r (now (room .exit)) ⌝ }
 {
     let mut word = io::buffer();
@@ -139,5 +146,5 @@ pub fn of_input(i: usize, room: &mut [u8]) -> usize
     if text::same_bytes(&word[..n], b"-") {
         return cli_beside::beside(room, b"-", b"");
     }
-    of(i, b"FILE", room)
+    of(p, i, b"FILE", room)
 }

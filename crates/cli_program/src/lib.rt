@@ -6,6 +6,7 @@ ghost use Prim.Native.Nat.{_<_};
 mod explaining;
 
 use cli_terminal::options;
+use cli_terminal::program::Program;
 use cli_terminal::say;
 use cli_terminal::status;
 use cli_terminal::status::Status;
@@ -24,12 +25,12 @@ fn served(command: u32) -> Status {
 }
 
 fn shown(is_written: bool) -> Status {
-    status::served_if(say::is_said(is_written, b"the help can't be shown: "))
+    status::served_if(say::is_said(Program::Lentilpot, is_written, b"the help can't be shown: "))
 }
 
 // `help`, and `help COMMAND`.
 fn helped() -> Status {
-    if !cli_asked::are_as_many(8, 2, 3) {
+    if !cli_help::are_as_many(8, 2, 3) {
         return Status::Trouble;
     }
     if options::count() == 2 {
@@ -68,26 +69,14 @@ fn of_words() -> Status {
     Status::Trouble
 }
 
-// Whether standard input, output and error are open: where one is not, a file of ours would get its number, and what is said
-// would land in it.
-fn are_open() -> bool {
-    let fd = os::open_read(b"/dev/null");
-    if fd < 0 {
-        return true;
-    }
-    libc::close(fd);
-    2 < fd
-}
-
 // The whole work: the exit status.
 pub fn run() -> u32
     ensures { λ r. ⌜ r < 3 ⌝ }
 {
-    if !are_open() {
-        say::err(b"lentilpot: expected standard input, output and error to be open\n");
+    if !cli_asked::are_open(Program::Lentilpot) {
         return 2;
     }
-    if !cli_asked::are_whole() {
+    if !cli_asked::are_whole(Program::Lentilpot) {
         return 2;
     }
     status::number(of_words())

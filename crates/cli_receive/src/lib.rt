@@ -3,6 +3,7 @@
 use cli_files::Seen;
 use cli_run::Run;
 use cli_terminal::options;
+use cli_terminal::program::Program;
 use cli_terminal::say;
 use cli_terminal::status::Status;
 
@@ -29,14 +30,14 @@ fn trouble() -> Done {
 // ---- words
 
 pub fn receive() -> Status {
-    if !cli_asked::are_as_many(5, 9, 10) {
+    if !cli_help::are_as_many(5, 9, 10) {
         return Status::Trouble;
     }
-    if !options::are_taken(true, true) {
+    if !options::are_taken(Program::Lentilpot, b"--later --explain ") {
         return Status::Trouble;
     }
     let mut table = io::buffer();
-    let n = cli_names::of_table(2, &mut table);
+    let n = cli_names::of_kept(Program::Lentilpot, 2, b"TABLE", &mut table);
     if n == 0 {
         return Status::Trouble;
     }
@@ -44,21 +45,33 @@ pub fn receive() -> Status {
 }
 
 fn receive_words(table: &[u8]) -> Status {
-    let cli_words::Number::Is(day) = cli_asked::date(3) else {
+    let cli_words::Number::Is(day) = cli_asked::date(Program::Lentilpot, 3) else {
         return Status::Trouble;
     };
-    let cli_words::Number::Is(time) = cli_asked::digits(4, 6, 6, b"TIME", b"six digits hhmmss")
-    else {
+    let cli_words::Number::Is(time) = cli_asked::digits(
+        Program::Lentilpot,
+        4,
+        6,
+        6,
+        b"TIME",
+        b"six digits hhmmss",
+    ) else {
         return Status::Trouble;
     };
-    let cli_words::Number::Is(kind) = cli_asked::digits(5, 1, 9, b"TYPE", b"a data type, 1 to 16")
-    else {
+    let cli_words::Number::Is(kind) = cli_asked::digits(
+        Program::Lentilpot,
+        5,
+        1,
+        9,
+        b"TYPE",
+        b"a data type, 1 to 16",
+    ) else {
         return Status::Trouble;
     };
-    let cli_words::Block::Of(clock) = cli_asked::key(6, b"CLOCK") else {
+    let cli_words::Block::Of(clock) = cli_asked::key(Program::Lentilpot, 6, b"CLOCK") else {
         return Status::Trouble;
     };
-    let cli_words::Number::Is(size) = cli_asked::read_size(9) else {
+    let cli_words::Number::Is(size) = cli_asked::read_size(Program::Lentilpot, 9) else {
         return Status::Trouble;
     };
     let today = calendar::Date { yymmdd: day };
@@ -74,12 +87,12 @@ fn receive_words(table: &[u8]) -> Status {
 // The names of the file and of the replies.
 fn receive_into(table: &[u8], o: opening::Opening, size: usize) -> Status {
     let mut file = io::buffer();
-    let n = cli_names::of_input(7, &mut file);
+    let n = cli_names::of_input(Program::Lentilpot, 7, &mut file);
     if n == 0 {
         return Status::Trouble;
     }
     let mut replies = io::buffer();
-    let m = cli_names::of_replies(8, &mut replies);
+    let m = cli_names::of_made(Program::Lentilpot, 8, b"REPLIES", &mut replies);
     if m == 0 {
         return Status::Trouble;
     }
@@ -103,7 +116,7 @@ fn receive_file(
     if is_input(file) {
         return receive_open(table, libc::STDIN_FILENO, file, replies, o, size);
     }
-    let input = cli_beside::open_told(b"can't open the file to receive", file);
+    let input = cli_beside::open_told(Program::Lentilpot, b"can't open the file to receive", file);
     if input < 0 {
         return Status::Trouble;
     }
@@ -120,12 +133,12 @@ fn receive_open(
     o: opening::Opening,
     size: usize,
 ) -> Status {
-    let r = cli_lock::take(table);
+    let r = cli_lock::take(Program::Lentilpot, table);
     if r.process == 0 {
         return Status::Trouble;
     }
     let done = under_lock(table, input, file, replies, r, o, size);
-    cli_lock::release(table, r);
+    cli_lock::release(Program::Lentilpot, table, r);
     answered(done, replies, file, o)
 }
 
@@ -133,7 +146,7 @@ fn receive_open(
 fn answered(done: Done, replies: &[u8], file: &[u8], o: opening::Opening) -> Status {
     let today = o.today;
     if done.refusal == 11 {
-        return say::answer_limits(b"TYPE", b"a data type, 1 to 16");
+        return say::answer_limits(Program::Lentilpot, b"TYPE", b"a data type, 1 to 16");
     }
     if done.refusal != 0 {
         let day = done.day;
@@ -157,11 +170,11 @@ fn under_lock(
 ) -> Done {
     let mut t = [0u8; 49152];
     let seen = cli_files::of_name(table);
-    if !cli_table::load(table, &mut t) {
+    if !cli_table::load(Program::Lentilpot, table, &mut t) {
         return trouble();
     }
     if cli_files::is_same(cli_files::of_open(input), seen) {
-        say::expected(b"FILE", b"another file than TABLE");
+        say::expected(Program::Lentilpot, b"FILE", b"another file than TABLE");
         return trouble();
     }
     let today = o.today;
@@ -194,17 +207,17 @@ fn make_table(
     s: session::Session,
     size: usize,
 ) -> Done {
-    let kept = cli_table::begin(table);
+    let kept = cli_table::begin(Program::Lentilpot, table);
     if kept < 0 {
         return trouble();
     }
-    if !cli_replies::is_free(replies) {
+    if !cli_replies::is_free(Program::Lentilpot, replies) {
         cli_table::give_up(table, kept);
         return trouble();
     }
-    let out = cli_replies::begin(replies, table, r);
+    let out = cli_replies::begin(Program::Lentilpot, replies, table, r);
     if out < 0 {
-        cli_replies::undo(table, kept, r);
+        cli_replies::undo(Program::Lentilpot, table, kept, r);
         return trouble();
     }
     make_replies(table, kept, seen, input, file, replies, out, r, t, s, size)
@@ -226,13 +239,22 @@ fn make_replies(
 ) -> Done {
     let explanations = cli_listing::begin(replies);
     if !is_filled(input, file, out, explanations, replies, t, s, size) {
-        cli_replies::remove(replies, out, r);
-        cli_replies::undo(table, kept, r);
+        cli_replies::remove(Program::Lentilpot, replies, out, r);
+        cli_replies::undo(Program::Lentilpot, table, kept, r);
         return trouble();
     }
     // opened while the name is surely this run's, and listed once all is done
     let listed = cli_beside::open_beside(replies, b".new");
-    let is_saved = cli_replies::is_finished(table, kept, seen, replies, out, r, t);
+    let is_saved = cli_replies::is_finished(
+        Program::Lentilpot,
+        table,
+        kept,
+        seen,
+        replies,
+        out,
+        r,
+        t,
+    );
     libc::close(out);
     Done {
         refusal: 0,
@@ -260,20 +282,5 @@ fn is_filled(
     if !cli_feed::is_received(input, file, out, explanations, replies, t, s, size) {
         return false;
     }
-    if libc::fsync(out) != 0 {
-        say::trouble_beside(
-            b"nothing was changed: can't flush the replies",
-            replies,
-            b".new",
-        );
-        return false;
-    }
-    if !cli_beside::flush_folder(replies) {
-        say::trouble(
-            b"nothing was changed: can't flush the folder of the replies",
-            replies,
-        );
-        return false;
-    }
-    true
+    cli_replies::is_flushed(Program::Lentilpot, replies, out)
 }

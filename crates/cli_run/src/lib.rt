@@ -1,4 +1,5 @@
 // Who a lock, or replies under way, are of: a process and sixteen random letters of the run, in one line, and perhaps a name in the next.
+use cli_terminal::program::Program;
 use cli_terminal::say;
 
 // Process 0 is nobody.
@@ -19,10 +20,10 @@ fn letter(b: u8) -> u8 {
 }
 
 // This process, on a run of its own.
-pub fn begun() -> Run {
+pub fn begun(p: Program) -> Run {
     let mut b = [0u8; 16];
     if libc::getentropy(&mut b) != 0 {
-        say::trouble(b"can't begin a run", b"random bytes");
+        say::trouble(p, b"can't begin a run", b"random bytes");
         return nobody();
     }
     Run {

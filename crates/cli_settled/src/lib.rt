@@ -1,11 +1,13 @@
 // Explains a reply where it was settled: by the session just before the byte that settled it, and by the table before and after.
 use cli_explain::Settled;
 use cli_passed::Passed;
+use cli_terminal::program::Program;
 use cli_terminal::say;
 
 pub fn is_told(is_written: bool, replies: &[u8]) -> bool {
     if !is_written {
         say::trouble(
+            Program::Lentilpot,
             b"nothing was changed: can't write the explanations beside the replies",
             replies,
         );

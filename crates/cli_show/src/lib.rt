@@ -1,47 +1,9 @@
 // The command show: what a table holds, with check values for keys. Each part says whether it could be written.
-ghost use Prim.Native.Nat.{_≤_};
-ghost use lib.ListN.{length};
 use cli_terminal::options;
+use cli_terminal::program::Program;
 use cli_terminal::say;
 use cli_terminal::status;
 use cli_terminal::status::Status;
-use libc::STDOUT_FILENO;
-
-fn number(n: u64) -> bool {
-    io::print_decimal(STDOUT_FILENO, n)
-}
-
-// How long a name is without the blanks at its end.
-fn trimmed(s: &[u8]) -> usize
-    ensures { λ r. ⌜ r ≤ length (now (s .entry)) ⌝ }
-{
-    let mut n = s.len();
-    while 0 < n {
-        if s[n - 1] != b' ' {
-            return n;
-        }
-        n -= 1;
-    }
-    0
-}
-
-// A name in quotes, of which no name has any.
-fn name(s: &[u8]) -> bool {
-    let n = trimmed(s);
-    say::out(b"\"") && say::out(&s[..n]) && say::out(b"\"")
-}
-
-// An identity of n characters, and the qualifier after it.
-fn who(label: &[u8], who: &[u8], n: usize) -> bool {
-    if who.len() < n {
-        return false;
-    }
-    say::out(label)
-        && name(&who[..n])
-        && say::out(b" qualifier ")
-        && name(&who[n..])
-        && say::out(b"\n")
-}
 
 fn date(d: calendar::Date) -> bool {
     let mut six = [0u8; 6];
@@ -66,7 +28,7 @@ fn holiday(d: u32) -> bool {
 }
 
 fn holidays(h: table::Holidays) -> bool {
-    if !(say::out(b"holidays    ") && number(h.count as u64)) {
+    if !(say::out(b"holidays    ") && cli_shown::number(h.count as u64)) {
         return false;
     }
     let mut i = 0;
@@ -84,11 +46,11 @@ fn holidays(h: table::Holidays) -> bool {
 fn settings(s: customer::Settings) -> bool {
     let bank = s.bank;
     let software = s.software;
-    who(b"bank        ", &bank, 17)
+    cli_shown::who(b"bank        ", &bank, 17)
         && say::out(b"software    ")
-        && name(&software)
+        && cli_shown::name(&software)
         && say::out(b"\nfloor       ")
-        && number(s.floor as u64)
+        && cli_shown::number(s.floor as u64)
         && say::out(b"\n")
 }
 
@@ -99,7 +61,7 @@ fn bank(t: &[u8]) -> bool {
         && settings(table::settings(t))
         && holidays(table::holidays_in(t))
         && say::out(b"customers   ")
-        && number(table::customer_count(t) as u64)
+        && cli_shown::number(table::customer_count(t) as u64)
         && say::out(b"\n")
 }
 
@@ -107,9 +69,9 @@ fn bank(t: &[u8]) -> bool {
 
 fn listed_type(k: u64, is_first: bool) -> bool {
     if is_first {
-        return number(k);
+        return cli_shown::number(k);
     }
-    say::out(b",") && number(k)
+    say::out(b",") && cli_shown::number(k)
 }
 
 // Type k is bit k - 1.
@@ -133,11 +95,6 @@ fn types(mask: u32) -> bool {
     true
 }
 
-fn generation(g: u32, key: u64) -> bool {
-    let value = text::hex_digits(keys::check_value(key));
-    number(g as u64) && say::out(b" check value ") && say::out(&value[10..])
-}
-
 // The previous key's days; it stays good for a stamp dated within them as long as it is held.
 fn days(c: customer::Changeover, today: calendar::Date) -> bool {
     let first = c.first;
@@ -153,14 +110,14 @@ fn previous(p: customer::Previous, today: calendar::Date) -> bool {
     let customer::Previous::Held(c) = p else {
         return true;
     };
-    say::out(b", previous ") && generation(c.generation, c.key) && days(c, today)
+    say::out(b", previous ") && cli_shown::generation(c.generation, c.key) && days(c, today)
 }
 
 fn key_pair(label: &[u8], k: customer::KeyPair, today: calendar::Date) -> bool {
     let before = k.previous;
     say::out(label)
         && say::out(b"generation ")
-        && generation(k.generation, k.key)
+        && cli_shown::generation(k.generation, k.key)
         && previous(before, today)
         && say::out(b"\n")
 }
@@ -177,7 +134,7 @@ fn stamps(t: &[u8], c: customer::Customer) -> bool {
     let h = table::holidays_in(t);
     let dates = h.dates;
     let n = live(c, table::day(t), &dates, h.count as usize);
-    say::out(b"  stamps     ") && number(n as u64) && say::out(b" of 64 held\n")
+    say::out(b"  stamps     ") && cli_shown::number(n as u64) && say::out(b" of 64 held\n")
 }
 
 fn permits(c: customer::Customer) -> bool {
@@ -186,7 +143,7 @@ fn permits(c: customer::Customer) -> bool {
         && say::out(b"  types      ")
         && types(c.types)
         && say::out(b"\n  changeover ")
-        && number(c.length.0 as u64)
+        && cli_shown::number(c.length.0 as u64)
         && say::out(b" days\n")
 }
 
@@ -196,7 +153,7 @@ fn customer_at(t: &[u8], i: usize) -> bool {
     let transport = c.transport;
     let working = c.working;
     let today = table::day(t);
-    who(b"\ncustomer    ", &identity, 17)
+    cli_shown::who(b"\ncustomer    ", &identity, 17)
         && permits(c)
         && key_pair(b"  transport  ", transport, today)
         && key_pair(b"  working    ", working, today)
@@ -220,14 +177,18 @@ fn customers(t: &[u8]) -> bool {
 // ---- the command
 
 fn shown(is_written: bool) -> Status {
-    status::served_if(say::is_said(is_written, b"the table can't be shown: "))
+    status::served_if(say::is_said(
+        Program::Lentilpot,
+        is_written,
+        b"the table can't be shown: ",
+    ))
 }
 
 // The bank's day and one customer.
 fn one(t: &[u8], who: [u8; 25]) -> Status {
     let found = table::find(t, who);
     let table::Found::At(i) = found else {
-        return say::answer(7);
+        return say::answer(Program::Lentilpot, 7);
     };
     let is_written = say::out(b"day         ") && date(table::day(t)) && say::out(b"\n");
     shown(is_written && customer_at(t, i))
@@ -235,12 +196,12 @@ fn one(t: &[u8], who: [u8; 25]) -> Status {
 
 fn show_table(t: &[u8]) -> Status {
     if !table::is_table(t) {
-        return say::answer(2);
+        return say::answer(Program::Lentilpot, 2);
     }
     if options::count() == 3 {
         return shown(bank(t) && customers(t));
     }
-    let customer = cli_asked::who(3, b"IDENTITY");
+    let customer = cli_asked::who(Program::Lentilpot, 3, b"IDENTITY", b"QUALIFIER");
     if !customer.good {
         return Status::Trouble;
     }
@@ -249,23 +210,27 @@ fn show_table(t: &[u8]) -> Status {
 }
 
 pub fn show() -> Status {
-    if !cli_asked::are_as_many(6, 3, 5) {
+    if !cli_help::are_as_many(6, 3, 5) {
         return Status::Trouble;
     }
     if options::count() == 4 {
-        say::expected(b"QUALIFIER", b"a word after IDENTITY, \"\" for a blank one");
+        say::expected(
+            Program::Lentilpot,
+            b"QUALIFIER",
+            b"a word after IDENTITY, \"\" for a blank one",
+        );
         return Status::Trouble;
     }
-    if !options::are_taken(false, false) {
+    if !options::are_taken(Program::Lentilpot, b"") {
         return Status::Trouble;
     }
     let mut path = io::buffer();
-    let n = cli_names::of(2, b"TABLE", &mut path);
+    let n = cli_names::of(Program::Lentilpot, 2, b"TABLE", &mut path);
     if n == 0 {
         return Status::Trouble;
     }
     let mut t = [0u8; 49152];
-    if !cli_table::load(&path[..n], &mut t) {
+    if !cli_table::load(Program::Lentilpot, &path[..n], &mut t) {
         return Status::Trouble;
     }
     show_table(&t)

@@ -1,6 +1,7 @@
 // Options stand anywhere among the words and begin with two dashes; a word `--` ends them, so that a name may begin so too. The words are
 // counted without them: word 0 is the program, word 1 the command.
 ghost use Rattle.io.specs.Counts.{Counts};
+use crate::program::Program;
 use crate::say;
 
 fn is_word(at: usize, word: &[u8]) -> bool {
@@ -82,6 +83,23 @@ pub fn count() -> usize {
     words
 }
 
+// Whether there are as many words as a command takes; the two that come before them are the program and the command. Where not, the line
+// is begun, and what was expected ends it.
+pub fn are_as_many(p: Program, low: usize, high: usize) -> bool {
+    let n = count();
+    if n < low {
+        say::begin_line(p);
+        say::err(b"too few words: expected ");
+        return false;
+    }
+    if high < n {
+        say::begin_line(p);
+        say::err(b"too many words: expected ");
+        return false;
+    }
+    true
+}
+
 // Word i at the start of the room.
 pub fn word(i: usize, room: &mut [u8]) -> usize
     ensures { λ r. ⌜ Counts r (now (room .exit)) ⌝ }
@@ -102,30 +120,50 @@ pub fn is_given(option: &[u8]) -> bool {
     false
 }
 
-// Whether the option at a place is one that the command takes: --later, --explain.
-fn is_taken(at: usize, later: bool, explain: bool) -> bool {
-    if later && is_word(at, b"--later") {
-        return true;
+// Whether a word is one of a list, in which a blank stands after each.
+fn is_listed(word: &[u8], list: &[u8]) -> bool {
+    let n = list.len();
+    let mut at = 0;
+    while at < n {
+        let end = cli_words::part_end(list, at, b' ');
+        if n <= end {
+            return false;
+        }
+        if end < at {
+            return false;
+        }
+        if text::same_bytes(word, &list[at..end]) {
+            return true;
+        }
+        at = end + 1;
     }
-    explain && is_word(at, b"--explain")
+    false
 }
 
-fn tell_other(at: usize) {
+// Whether the option at a place is one of those that the command takes.
+fn is_taken(at: usize, taken: &[u8]) -> bool {
     let mut given = io::buffer();
     let n = os::arg(at, &mut given);
-    say::err(b"lentilpot: this command has no option");
+    is_listed(&given[..n], taken)
+}
+
+fn tell_other(p: Program, at: usize) {
+    let mut given = io::buffer();
+    let n = os::arg(at, &mut given);
+    say::begin_line(p);
+    say::err(b"this command has no option");
     say::quoted(&given[..n], b"");
     say::err(b": expected one that '--help' lists, or '--' before a name that begins so\n");
 }
 
-// Whether every option is one that the command takes.
-pub fn are_taken(later: bool, explain: bool) -> bool {
+// Whether every option is one that the command takes; a blank stands after each that it does.
+pub fn are_taken(p: Program, taken: &[u8]) -> bool {
     let n = end();
     let mut at = 1;
     while at < n {
         if is_option(at) {
-            if !is_taken(at, later, explain) {
-                tell_other(at);
+            if !is_taken(at, taken) {
+                tell_other(p, at);
                 return false;
             }
         }

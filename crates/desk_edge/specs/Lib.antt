@@ -1,2 +1,3 @@
 -- What the contracts of `desk_edge` cite.
 pub mod Calls
+pub mod Builder

@@ -1,4 +1,6 @@
 // The desk's calls for a box in C or Rust: numbers and byte slices; a desk and what was sent are lent bytes of one length each.
+pub mod builder;
+
 ghost use mathlib.Core.Path.{_≡_};
 ghost use mathlib.Core.List.{[], _∷_};
 ghost use lib.Dec.{eqb};

@@ -2,3 +2,4 @@
 pub mod Folds
 pub mod Macs
 pub mod Batches
+pub mod Ranges

@@ -2,3 +2,4 @@
 pub mod Mac
 pub mod Kept
 pub mod Running
+pub mod Ranges

@@ -8,6 +8,7 @@ use mathlib.Core.Bool.{Bool, true, false, false≢true}
 use lib.ListN.{length}
 use Rattle.ground.specs.Choice.{pick}
 use Rattle.ground.proofs.Bools.{picked}
+use Rattle.digest.proofs.Ranges.{begun-fits, alike-fits, ended-fits}
 use Rattle.calendar.specs.Dates.{realDate}
 use Rattle.table.specs.Decode.{isTable, tableOf}
 use Rattle.message.specs.declared.Extent.{Extent}
@@ -30,8 +31,6 @@ use Rattle.session.specs.declared.Line.{Line}
 use Rattle.session.specs.declared.Place.{Place}
 use Rattle.session.specs.declared.Place.the-variants.{BeforeEsi, Outside, Collecting, InData, Closed}
 use Rattle.session.specs.declared.Session.{Session}
-use Rattle.session.proofs.Fresh.{begun-fits, alike-fits}
-use Rattle.law_cutting.proofs.Running.{ended-fits}
 use Rattle.law_cutting.proofs.Leaves.{Still, esi-still, frame-still}
 use Rattle.law_cutting.proofs.Stays.{Later, byte-later, end-later, extent-uncut, once-fits, sender-length, esi-made, frame-made}
 use Rattle.law_cutting.proofs.Stays.{Stays, stays-same, stays-then, stays-line, stays-heard, stays-placed, stays-empty, stays-shut}

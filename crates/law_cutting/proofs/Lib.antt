@@ -1,7 +1,6 @@
 -- Laws, in the order in which they build on each other.
 pub mod Cuts
 pub mod Plain
-pub mod Running
 pub mod Leaves
 pub mod Stays
 pub mod Keeps

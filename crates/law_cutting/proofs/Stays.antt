@@ -12,6 +12,8 @@ use Rattle.ground.specs.Choice.{pick}
 use Rattle.ground.proofs.Bools.{picked}
 use Rattle.ground.proofs.Parts.{part-length}
 use Rattle.des.proofs.Inverse.{enciphered-lt, deciphered-lt}
+use Rattle.digest.specs.Ranges.{RunningFits}
+use Rattle.digest.proofs.Ranges.{took-fits}
 use Rattle.changeover.specs.declared.Key.{Key}
 use Rattle.changeover.specs.declared.Key.the-variants.{Missing, Is}
 use Rattle.acceptance.specs.declared.Granted.{Granted}
@@ -30,9 +32,9 @@ use Rattle.verdict.specs.Outcomes.{outcomeOf, esiOutcome, frameOutcome}
 use Rattle.whole_file.specs.Messages.{extentOf, oneTime, transportHeld, oneTimeOf, onceOf}
 use Rattle.whole_file.specs.Records.{sizeLimit}
 use Rattle.session.specs.Lines.{lineAfter, lineEnded}
-use Rattle.session.specs.Events.{gatheredWith, gatheredAll, cipherOf, heardBy, heard, nothing, placed, withBatch, judged, shut}
+use Rattle.session.specs.Events.{isData, batchWith, gatheredWith, gatheredAll, cipherOf, heardBy, heard, nothing, placed, withBatch, judged, shut}
 use Rattle.session.specs.Machine.{withLine}
-use Rattle.session.specs.Ranges.{isCut, Fits, RunningFits}
+use Rattle.session.specs.Ranges.{isCut, Fits}
 use Rattle.session.specs.declared.Line.{Line}
 use Rattle.session.specs.declared.Place.{Place}
 use Rattle.session.specs.declared.Place.the-variants.{Closed}
@@ -40,7 +42,6 @@ use Rattle.session.specs.declared.Gathered.{Gathered}
 use Rattle.session.specs.declared.Batch.{Batch}
 use Rattle.session.specs.declared.Session.{Session}
 use Rattle.law_cutting.proofs.Plain.{batch-suo, batch-once}
-use Rattle.law_cutting.proofs.Running.{batch-fits}
 
 -- the line l may come after k: it counts no byte less, and its count still fits four bytes
 pub record Later (k l : Line) : Type 0 where
@@ -196,6 +197,13 @@ cipher-lt : (s : Session) (x : ℕ) → cipherOf s x < 2 ^ 64
 unfolding cipherOf
 cipher-lt s x = enciphered-lt (keyOr0 (s .batch .once)) x
 
+batch-fits : (s : Session) (l : List ℕ) → RunningFits (s .batch .running)
+    → RunningFits (batchWith (cipherOf s) (s .place) (s .batch) l .running)
+unfolding batchWith
+batch-fits s l f =
+    picked (λ (x : Batch). RunningFits (x .running)) (isData (s .place)) _ _
+    (λ h. took-fits (cipherOf s) (cipher-lt s) l (s .batch .running) f) (λ h. f)
+
 pub stays-heard : (s : Session) (l : List ℕ) → Stays s (heard s l)
 unfolding heard heardBy
 stays-heard s l =
@@ -217,7 +225,7 @@ stays-heard s l =
           };
       line-later = later-same (s .line);
       made-stays = λ h. h;
-      running-stays = batch-fits (cipherOf s) (cipher-lt s) (s .place) (s .batch) l;
+      running-stays = batch-fits s l;
     }
 
 pub stays-placed : (s : Session) (p : Place) (told : Bool) (g : Gathered) → (s .gathered .count ≤ 500 → g .count ≤ 500)

@@ -25,7 +25,7 @@ use Rattle.law_demands.specs.Demands.{noneFails, VerdictOf, Judges, EsiJ
 
 -- ---- no check fails, as a test
 
-none-true : (cs : List Check) → NoneFails cs → noneFails cs ≡ true
+pub none-true : (cs : List Check) → NoneFails cs → noneFails cs ≡ true
 unfolding noneFails fails
 none-true [] n = refl
 none-true (c ∷ cs) n = join _ _ (ap fails (n .0)) (none-true cs (n .1))

@@ -41,7 +41,7 @@ use Rattle.law_desk.proofs.Granted.{used-held, enclosed-lt, enclosed-od
 
 -- ---- the sender's record in a sound table
 
-each-at : (l : List Customer) (i : ℕ) (d : Customer) → eachSound l ≡ true → i < length l
+pub each-at : (l : List Customer) (i : ℕ) (d : Customer) → eachSound l ≡ true → i < length l
     → (customerFits (getD l i d) ≡ true) × (soundCustomer (getD l i d) ≡ true)
 unfolding eachSound
 each-at [] i d e h = absurd (not-suc-le-zero h)

@@ -29,7 +29,7 @@ use Rattle.law_desk.proofs.Form.{Common, Made, Facts}
 
 -- ---- a test that is made, as it is asked
 
-asked-of : (a b : Bool) → only a b ≡ true → a ≡ true → b ≡ true
+pub asked-of : (a b : Bool) → only a b ≡ true → a ≡ true → b ≡ true
 unfolding either fails
 asked-of true b e p = e
 asked-of false b e p = cc

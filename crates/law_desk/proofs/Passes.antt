@@ -43,12 +43,12 @@ use Rattle.law_desk.proofs.Form.{says-81, says-82, says-91, says-92, sa
 
 -- ---- a checksum is eight bytes
 
-chained-lt : (key c : ℕ) (bs : List ℕ) → c < 2 ^ 64 → chained (enciphered key) c bs < 2 ^ 64
+pub chained-lt : (key c : ℕ) (bs : List ℕ) → c < 2 ^ 64 → chained (enciphered key) c bs < 2 ^ 64
 unfolding chained
 chained-lt key c [] h = h
 chained-lt key c (b ∷ bs) h = chained-lt key (enciphered key (bitXor c b)) bs (enciphered-lt key (bitXor c b))
 
-checksum-lt : (key : ℕ) (l : List ℕ) → checksumOf key l < 2 ^ 64
+pub checksum-lt : (key : ℕ) (l : List ℕ) → checksumOf key l < 2 ^ 64
 unfolding checksumOf mac
 checksum-lt key l = chained-lt key 0 _ (omega arith)
 
@@ -57,11 +57,11 @@ hex-there-and-back x h = hex-back 16 x h
 
 -- ---- two parts of a party
 
-sender-two : (m : List ℕ) → fieldText 91 m ++ fieldText 92 m ≡ senderOf m
+pub sender-two : (m : List ℕ) → fieldText 91 m ++ fieldText 92 m ≡ senderOf m
 unfolding fieldText senderOf offsetIn widthIn pick
 sender-two m = part-join [] 60 17 8 m
 
-receiver-two : (m : List ℕ) → fieldText 81 m ++ fieldText 82 m ≡ receiverOf m
+pub receiver-two : (m : List ℕ) → fieldText 81 m ++ fieldText 82 m ≡ receiverOf m
 unfolding fieldText receiverOf offsetIn widthIn pick
 receiver-two m = part-join [] 35 17 8 m
 

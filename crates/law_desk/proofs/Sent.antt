@@ -80,6 +80,23 @@ pub record Long (first closing : List ℕ) : Type 0 where
   pub opens : 128 ≤ length first
   pub closes : 161 ≤ length closing
 
+-- their fields fit their places
+pub sent-fits : (first closing : List ℕ) → Long first closing → AllBytes first → AllBytes closing → SentFits (sentBy first closing)
+unfolding sentBy receiverOf senderOf stampTextOf fieldText offsetIn widthIn pick
+sent-fits first closing long a b =
+    let l = long .opens in
+    let m = long .closes in
+    record {
+      receiver = part-length first 35 25 (omega arith);
+      sender = part-length first 60 25 (omega arith);
+      transport = b 85;
+      working = b 86;
+      stamp = part-length first 87 15 (omega arith);
+      area = a 102;
+      once = part-length first 112 16 (omega arith);
+      digest = part-length closing 128 16 (omega arith);
+    }
+
 taken-long : (first closing : List ℕ) → areSent first closing ≡ true → Long first closing
 unfolding areSent layoutLength layout total between
 taken-long first closing e = by (either-cases _ _ e)
@@ -120,27 +137,11 @@ module _ (first closing room : List ℕ) (z : sentRefusal first closing room ≡
       ∙ ap sentBytes (sent-alike _ _ _ _ (known-begins 128 first (omega arith) (l .opens)) (known-begins 161 closing (omega arith) (l .closes)))
 
   module _ (a : AllBytes first) (b : AllBytes closing) where
-    sent-fits : SentFits (sentBy first closing)
-    unfolding sentBy receiverOf senderOf stampTextOf fieldText offsetIn widthIn pick
-    sent-fits =
-        let l = sent-long .opens in
-        let m = sent-long .closes in
-        record {
-          receiver = part-length first 35 25 (omega arith);
-          sender = part-length first 60 25 (omega arith);
-          transport = b 85;
-          working = b 86;
-          stamp = part-length first 87 15 (omega arith);
-          area = a 102;
-          once = part-length first 112 16 (omega arith);
-          digest = part-length closing 128 16 (omega arith);
-        }
-
     pub sent-size : length (sentAfterCall first closing room) ≡ sentSize
-    sent-size = ap length sent-stored ∙ size (sentBy first closing) sent-fits
+    sent-size = ap length sent-stored ∙ size (sentBy first closing) (sent-fits first closing sent-long a b)
 
     pub sent-said : sentIn (sentAfterCall first closing room) ≡ sentBy first closing
-    sent-said = ap sentIn sent-stored ∙ again (sentBy first closing) sent-fits
+    sent-said = ap sentIn sent-stored ∙ again (sentBy first closing) (sent-fits first closing sent-long a b)
 
 pub sent-is-back : SentBack
 sent-is-back first closing room a b z = sent-said first closing room z a b

@@ -102,7 +102,7 @@ unfolding keptOf
 kept-one Skh r = omega (arith, length-map (stripped r) internal, stripped-length r)
 kept-one Ske r = omega (arith, length-map r internal)
 
-kept-length : (m : Method) (rs : List (List ℕ)) → length (kept m rs) ≤ sizeOf rs
+pub kept-length : (m : Method) (rs : List (List ℕ)) → length (kept m rs) ≤ sizeOf rs
 unfolding kept sizeOf
 kept-length m [] = omega arith
 kept-length m (r ∷ rs) = omega (arith, length-append (keptOf m r) (kept m rs), kept-one m r, kept-length m rs)

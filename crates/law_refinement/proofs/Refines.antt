@@ -53,14 +53,14 @@ module _ (at : ℕ) (raw : List ℕ) (b : ℕ) (bs : List ℕ) where
   unfolding itemsFrom
   items-past t = picks _ _ _ t
 
-  items-lf : leb sizeLimit at ≡ false → eqb b lf ≡ true
+  pub items-lf : leb sizeLimit at ≡ false → eqb b lf ≡ true
       → itemsFrom at raw (b ∷ bs) ≡ line (record { chars = withoutCr raw; end = at + 1 }) ∷ itemsFrom (at + 1) [] bs
   unfolding itemsFrom endedBy grown
   items-lf t e =
       skips _ _ _ t
       ∙ ap₂ (λ (l : List Item) (r : List ℕ). l ++ itemsFrom (at + 1) r bs) (picks _ _ _ e) (picks _ _ _ e)
 
-  items-on : leb sizeLimit at ≡ false → eqb b lf ≡ false → itemsFrom at raw (b ∷ bs) ≡ itemsFrom (at + 1) (raw ++ (b ∷ [])) bs
+  pub items-on : leb sizeLimit at ≡ false → eqb b lf ≡ false → itemsFrom at raw (b ∷ bs) ≡ itemsFrom (at + 1) (raw ++ (b ∷ [])) bs
   unfolding itemsFrom endedBy grown
   items-on t e =
       skips _ _ _ t

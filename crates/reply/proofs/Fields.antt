@@ -43,7 +43,7 @@ saidIn n (e ∷ es) = pick (eqb (e .number) n) (e .text) (saidIn n es)
 -- ---- any fields laid out
 
 -- each as long as its field, up to where they end
-data Laid : List Field → List Said → Type 0 where
+pub data Laid : List Field → List Said → Type 0 where
   ends : {fs : List Field} → Laid fs []
   lays : {f : Field} {e : Said} {fs : List Field} {es : List Said} → e .number ≡ f .number → length (e .text) ≡ f .length
       → Laid fs es → Laid (f ∷ fs) (e ∷ es)
@@ -55,7 +55,7 @@ next-part true w o k v rest u e p = take-at v rest w e
 next-part false w o k v rest u e p =
     ap (λ (j : ℕ). take k (drop (j + o) (v ++ rest))) (sym e) ∙ ap (take k) (drop-append-add v rest o) ∙ p
 
-laid-out : {fs : List Field} {es : List Said} → Laid fs es → (n : ℕ) → part (offsetIn n fs) (widthIn n fs) (joined es) ≡ saidIn n es
+pub laid-out : {fs : List Field} {es : List Said} → Laid fs es → (n : ℕ) → part (offsetIn n fs) (widthIn n fs) (joined es) ≡ saidIn n es
 unfolding offsetIn widthIn saidIn joined part
 laid-out (ends {fs}) n = ap (take (widthIn n fs)) (drop-nil (offsetIn n fs)) ∙ take-nil (widthIn n fs)
 laid-out (lays {f} {e} {fs} {es} p h l) n =

@@ -7,7 +7,8 @@ use mathlib.Core.Bool.{false}
 use native.Mathlib.Omega.{arith}
 use lib.ListN.{length, replicate, length-replicate}
 use Rattle.digest.specs.Running.{begun, alike}
-use Rattle.digest.specs.declared.State.{State}
+use Rattle.digest.specs.Ranges.{RunningFits}
+use Rattle.digest.proofs.Ranges.{begun-fits, alike-fits}
 use Rattle.changeover.specs.declared.Key.the-variants.{Missing}
 use Rattle.message.specs.declared.Extent.the-variants.{Whole}
 use Rattle.checks.specs.Checks.{keyOr0}
@@ -15,20 +16,10 @@ use Rattle.opening.specs.declared.Opening.{Opening}
 use Rattle.whole_file.specs.Messages.{textRoom}
 use Rattle.session.specs.Events.{nothing}
 use Rattle.session.specs.Machine.{opened, unopened}
-use Rattle.session.specs.Ranges.{Fits, StateFits, RunningFits, Encodes}
+use Rattle.session.specs.Ranges.{Fits, Encodes}
 use Rattle.session.specs.declared.Gathered.{Gathered}
 use Rattle.session.specs.declared.Batch.{Batch}
 use Rattle.session.specs.declared.Session.{Session}
-
--- ---- a digest that begins
-
-pub begun-fits : StateFits begun
-unfolding begun
-begun-fits = record { chain-fits = omega arith; block-fits = omega arith; count-fits = omega arith }
-
-pub alike-fits : {s : State} → StateFits s → RunningFits (alike s)
-unfolding alike
-alike-fits f = record { start-fits = f; solid-fits = f; last-fits = f }
 
 -- ---- a session with nothing in it but its opening
 

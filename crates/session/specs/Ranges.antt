@@ -6,8 +6,7 @@ use mathlib.Core.Bool.{Bool, true, false}
 use lib.Dec.{eqb, leb}
 use lib.ListN.{length}
 use Rattle.ground.specs.Choice.{both, either, fails, between}
-use Rattle.digest.specs.declared.State.{State}
-use Rattle.digest.specs.declared.Running.{Running}
+use Rattle.digest.specs.Ranges.{RunningFits}
 use Rattle.calendar.specs.Dates.{realTime}
 use Rattle.message.specs.declared.Extent.{Extent}
 use Rattle.message.specs.declared.Extent.the-variants.{Whole, TooShort, LengthNotDigits, OtherLength, CutShort}
@@ -55,17 +54,6 @@ pub record Fits (s : Session) : Type 0 where
   pub suo-long : length (s .batch .suo .text) ≡ 161
   pub sender-long : length (s .sender) ≡ 25
   pub key-fits : keyOr0 (s .batch .once) < 2 ^ 64
-
--- the words of a digest's state fit eight bytes each
-pub record StateFits (s : State) : Type 0 where
-  pub chain-fits : s .chain < 2 ^ 64
-  pub block-fits : s .block < 2 ^ 64
-  pub count-fits : s .n < 2 ^ 64
-
-pub record RunningFits (r : Running) : Type 0 where
-  pub start-fits : StateFits (r .start)
-  pub solid-fits : StateFits (r .solid)
-  pub last-fits : StateFits (r .last)
 
 -- what holds of every session that bytes say and that a call hands back: it fits its type, and each number the bytes that it is written in
 pub record Encodes (s : Session) : Type 0 where

@@ -8,13 +8,14 @@ use native.Mathlib.Omega.{arith}
 use Rattle.ground.specs.Choice.{both}
 use Rattle.splices.specs.Bytes.{bytesOf}
 use Rattle.codec.specs.Layout.{perhaps, Value, scalar, enc, Fits}
+use Rattle.digest.specs.Ranges.{StateFits}
 use Rattle.digest.specs.declared.State.{State}
 use Rattle.changeover.specs.declared.Key.{Key}
 use Rattle.changeover.specs.declared.Key.the-variants.{Missing, Is}
 use Rattle.message.specs.declared.Extent.{Extent}
 use Rattle.message.specs.declared.Extent.the-variants.{Whole, TooShort, LengthNotDigits, OtherLength, CutShort}
 use Rattle.checks.specs.Checks.{keyOr0}
-use Rattle.session.specs.Ranges.{StateFits, Encodes}
+use Rattle.session.specs.Ranges.{Encodes}
 use Rattle.session.specs.declared.Place.the-variants.{Closed}
 use Rattle.session.specs.declared.Session.{Session}
 use Rattle.session_bytes.specs.Names.{placeNumbered, extentNumber, extentNumbered}

@@ -1,51 +1,44 @@
-// A script's lines, and what each of them does. A word is told by its first three letters.
+// A script's lines, and what each of them does.
 use crate::reading::Asked;
 use crate::reading::Hand;
-use crate::words::decimal_at;
-use crate::words::least;
-use crate::words::wide;
+use vectors_words::append;
+use vectors_words::append_hex;
+use vectors_words::decimal_at;
+use vectors_words::is_of;
 
-const SETUP: u64 = 0x736574;
+const SETUP: u64 = 0x7365747570;
 
 const ADD: u64 = 0x616464;
 
 const KEY: u64 = 0x6B6579;
 
-const ORDER: u64 = 0x6F7264;
+const ORDER: u64 = 0x6F72646572;
 
-const OPEN: u64 = 0x6F7065;
+const OPEN: u64 = 0x6F70656E;
 
-const READ: u64 = 0x726561;
+const READ: u64 = 0x72656164;
 
 const END: u64 = 0x656E64;
 
 const RUN: u64 = 0x72756E;
 
-const SIZE: u64 = 0x73697A;
+const SIZE: u64 = 0x73697A65;
 
-const FILE: u64 = 0x66696C;
+const FILE: u64 = 0x66696C65;
 
-const RECORD: u64 = 0x726563;
+const RECORD: u64 = 0x7265636F7264;
 
-const CRLF: u64 = 0x63726C;
+const CRLF: u64 = 0x63726C66;
 
-const TEXT: u64 = 0x746578;
+const TEXT: u64 = 0x74657874;
 
-const BYTES: u64 = 0x627974;
+const BYTES: u64 = 0x6279746573;
 
-const SPOIL: u64 = 0x73706F;
+const SPOIL: u64 = 0x73706F696C;
 
-const KEEP: u64 = 0x6B6565;
+const KEEP: u64 = 0x6B656570;
 
-const BACK: u64 = 0x626163;
-
-// The first three letters of a line as a number, or 0 for fewer.
-fn letters(line: &[u8]) -> u64 {
-    if line.len() < 3 {
-        return 0;
-    }
-    wide(line[0]) * 65536 + wide(line[1]) * 256 + wide(line[2])
-}
+const BACK: u64 = 0x6261636B;
 
 pub fn empty_hand() -> Hand {
     let none = session::no_file();
@@ -58,23 +51,10 @@ pub fn empty_hand() -> Hand {
 
 // ---- the file in hand
 
-// Bytes behind those of the file, as far as there is room.
-fn append(file: &mut [u8], length: usize, bytes: &[u8]) -> usize {
-    let from = least(length, file.len());
-    text::copy(&mut file[from..], bytes);
-    from + least(bytes.len(), file.len() - from)
-}
-
 // The text behind a line's first word, and then a record's end.
 fn append_text(file: &mut [u8], length: usize, line: &[u8], end: &[u8]) -> usize {
-    let from = crate::words::place_of(line, 1);
-    let said = append(file, length, &line[from..]);
+    let said = append(file, length, vectors_words::text_at(line, 1));
     append(file, said, end)
-}
-
-fn append_hex(file: &mut [u8], length: usize, line: &[u8]) -> usize {
-    let from = least(length, file.len());
-    from + crate::words::bytes_at(&mut file[from..], line, 1)
 }
 
 // The file's length after a line that says what is behind it, or that it is empty.
@@ -100,7 +80,7 @@ fn obey_file(file: &mut [u8], length: usize, word: u64, line: &[u8]) -> usize {
 fn sized(h: Hand, line: &[u8]) -> Hand {
     let s = h.session;
     let old = s.line;
-    let size = crate::words::small_at(line, 1);
+    let size = vectors_words::small_at(line, 1);
     let mut after = h;
     after.session = session::with_line(s, session::Line { size, cr: old.cr });
     after
@@ -149,13 +129,6 @@ fn obey_session(t: &mut [u8], file: &[u8], h: Hand, word: u64, line: &[u8]) -> H
 
 // ---- the table in hand
 
-// spoil OFFSET BYTES
-fn spoil(t: &mut [u8], line: &[u8]) -> u32 {
-    let from = least(decimal_at(line, 1) as usize, t.len());
-    crate::words::bytes_at(&mut t[from..], line, 2);
-    0
-}
-
 fn registered(t: &mut [u8], word: u64, line: &[u8]) -> u32 {
     if word == SETUP {
         return crate::registering::set_up(t, line);
@@ -169,7 +142,8 @@ fn registered(t: &mut [u8], word: u64, line: &[u8]) -> u32 {
     if word == ORDER {
         return crate::registering::order(t, line);
     }
-    spoil(t, line)
+    vectors_words::write_over(t, line);
+    0
 }
 
 // A call that keeps the table, the table kept, or that again; any other line is a comment, which is written as it is.
@@ -188,27 +162,13 @@ fn obey_table(t: &mut [u8], kept: &mut [u8], word: u64, line: &[u8]) {
         crate::say::table(t);
         return;
     }
-    crate::say::words(line);
-    crate::say::words(b"\n");
-}
-
-// Whether a word is one of four.
-fn is_of(word: u64, a: u64, b: u64, c: u64, d: u64) -> bool {
-    if word == a {
-        return true;
-    }
-    if word == b {
-        return true;
-    }
-    if word == c {
-        return true;
-    }
-    word == d
+    vectors_words::say::words(line);
+    vectors_words::say::words(b"\n");
 }
 
 // Does what a line says.
 pub fn obey(t: &mut [u8], kept: &mut [u8], file: &mut [u8], h: Hand, line: &[u8]) -> Hand {
-    let word = letters(line);
+    let word = vectors_words::named(line);
     if word == SIZE || is_of(word, READ, END, RUN, OPEN) {
         return obey_session(t, file, h, word, line);
     }

@@ -1,6 +1,6 @@
 // Openings, reads and ends on the session in hand.
-use crate::words::least;
-use crate::words::small_at;
+use vectors_words::least;
+use vectors_words::small_at;
 
 // What is in hand: a session, and of the file how many bytes there are and how many were taken.
 pub struct Hand {
@@ -33,7 +33,7 @@ pub fn open(t: &mut [u8], h: Hand, line: &[u8]) -> Hand {
         },
         time: small_at(line, 2),
         kind: small_at(line, 3),
-        clock: crate::words::hex_at(line, 4),
+        clock: vectors_words::hex_at(line, 4),
     };
     let a = calls::open(t, o);
     crate::say::answered(line, a.refusal);

@@ -1,31 +1,12 @@
 // The calls that keep a table, each from its line, with the number of the refusal or 0.
-use crate::words::hex_at;
-use crate::words::place_of;
-use crate::words::small_at;
-use crate::words::who_at;
-
-// The holidays of a line, from its seventh word on.
-struct Holidays {
-    count: usize,
-    days: [u32; 208],
-}
-
-fn holidays_at(line: &[u8]) -> Holidays {
-    let mut days = [0u32; 208];
-    let mut n = 0;
-    while n < 208 {
-        if line.len() <= place_of(line, n + 6) {
-            break;
-        }
-        days[n] = small_at(line, n + 6);
-        n += 1;
-    }
-    Holidays { count: n, days }
-}
+use vectors_words::hex_at;
+use vectors_words::holidays_at;
+use vectors_words::small_at;
+use vectors_words::who_at;
 
 // Sets a table up with the first of these holidays.
 fn set_up_with(t: &mut [u8], s: table_calls::Setting, days: [u32; 208], count: usize) -> u32 {
-    let n = crate::words::least(count, 208);
+    let n = vectors_words::least(count, 208);
     table_calls::set_up(t, s, &days[0..n])
 }
 
@@ -33,7 +14,7 @@ fn set_up_with(t: &mut [u8], s: table_calls::Setting, days: [u32; 208], count: u
 pub fn set_up(t: &mut [u8], line: &[u8]) -> u32 {
     let bank = who_at(line, 1);
     let mut software = [0u8; 16];
-    crate::words::bytes_at(&mut software, line, 2);
+    vectors_words::bytes_at(&mut software, line, 2);
     let s = table_calls::Setting {
         bank,
         software,
@@ -47,9 +28,9 @@ pub fn set_up(t: &mut [u8], line: &[u8]) -> u32 {
 }
 
 fn length_at(line: &[u8], number: usize) -> refusals::Length {
-    let from = place_of(line, number);
-    if from < line.len() {
-        if line[from] == b'-' {
+    let word = vectors_words::word_at(line, number);
+    if 0 < word.len() {
+        if word[0] == b'-' {
             return refusals::Length::LeftOut;
         }
     }

@@ -1,15 +1,7 @@
 // What is written: what each call answered, and sums of the table and of the reply's buffer.
-use crate::words::wide;
-
-pub fn words(bytes: &[u8]) {
-    io::write_all(1, bytes);
-}
-
-// So many bytes, or all.
-fn beginning(n: usize, bytes: &[u8]) {
-    let end = crate::words::least(n, bytes.len());
-    words(&bytes[0..end]);
-}
+use vectors_words::beginning;
+use vectors_words::say::words;
+use vectors_words::wide;
 
 // A polynomial in 1,000,003 over a prime of 40 bits.
 fn sum(bytes: &[u8]) -> u64 {
@@ -35,7 +27,7 @@ fn numbered(name: &[u8], n: u64) {
 
 // A line's first word, then how the call was answered.
 pub fn answered(line: &[u8], refusal: u32) {
-    beginning(crate::words::next(line, 0, b' '), line);
+    words(vectors_words::word_at(line, 0));
     if refusal == 0 {
         words(b": ok");
         return;
@@ -67,6 +59,6 @@ pub fn answer(line: &[u8], a: calls::Answer, at: usize, buffer: &[u8], t: &[u8],
     if a.length == 0 {
         return;
     }
-    beginning(crate::words::least(a.length, shown), buffer);
+    words(beginning(buffer, vectors_words::least(a.length, shown)));
     words(b"\n");
 }

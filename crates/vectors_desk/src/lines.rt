@@ -1,51 +1,53 @@
-// A script's lines, and what each of them does. A word is told by its first three letters.
-use crate::words::beginning;
-use crate::words::behind;
-use crate::words::bytes_at;
-use crate::words::copy_at;
-use crate::words::decimal_at;
-use crate::words::least;
-use crate::words::text_at;
+// A script's lines, and what each of them does.
+use vectors_words::beginning;
+use vectors_words::behind;
+use vectors_words::bytes_at;
+use vectors_words::copy_at;
+use vectors_words::decimal_at;
+use vectors_words::is_of;
+use vectors_words::least;
+use vectors_words::text_at;
+use vectors_words::write_over;
 
-const SIZES: u64 = 0x73697A;
+const SIZES: u64 = 0x73697A6573;
 
-const OPEN: u64 = 0x6F7065;
+const OPEN: u64 = 0x6F70656E;
 
-const ENTER: u64 = 0x656E74;
+const ENTER: u64 = 0x656E746572;
 
-const VALUES: u64 = 0x76616C;
+const VALUES: u64 = 0x76616C756573;
 
-const SENT: u64 = 0x73656E;
+const SENT: u64 = 0x73656E74;
 
 const ESI: u64 = 0x657369;
 
 const PTE: u64 = 0x707465;
 
-const HELD: u64 = 0x68656C;
+const HELD: u64 = 0x68656C64;
 
-const INTO: u64 = 0x696E74;
+const INTO: u64 = 0x696E746F;
 
-const SPOIL: u64 = 0x73706F;
+const SPOIL: u64 = 0x73706F696C;
 
-const FORGE: u64 = 0x666F72;
+const FORGE: u64 = 0x666F726765;
 
-const FIRST: u64 = 0x666972;
+const FIRST: u64 = 0x6669727374;
 
-const CLOSING: u64 = 0x636C6F;
+const CLOSING: u64 = 0x636C6F73696E67;
 
-const REPLY: u64 = 0x726570;
+const REPLY: u64 = 0x7265706C79;
 
-const LONG: u64 = 0x6C6F6E;
+const LONG: u64 = 0x6C6F6E67;
 
 const PUT: u64 = 0x707574;
 
-const OVER: u64 = 0x6F7665;
+const OVER: u64 = 0x6F766572;
 
-const WORDS: u64 = 0x776F72;
+const WORDS: u64 = 0x776F726473;
 
-const KEEP: u64 = 0x6B6565;
+const KEEP: u64 = 0x6B656570;
 
-const BACK: u64 = 0x626163;
+const BACK: u64 = 0x6261636B;
 
 // How many bytes are lent as a desk and for what was sent, and how many characters the reply has.
 pub struct Lengths {
@@ -80,12 +82,6 @@ pub fn empty_hand() -> Hand {
 
 // ---- what is lent
 
-// Bytes over others, from a place on: spoil, forge, over.
-fn over(bytes: &mut [u8], line: &[u8]) {
-    let from = least(decimal_at(line, 1) as usize, bytes.len());
-    bytes_at(&mut bytes[from..], line, 2);
-}
-
 fn with_lengths(h: Hand, now: Lengths) -> Hand {
     let mut after = h;
     after.now = now;
@@ -103,10 +99,10 @@ fn obey_bytes(held: &mut [u8], sent: &mut [u8], h: Hand, word: u64, line: &[u8])
         return with_lengths(h, now);
     }
     if word == SPOIL {
-        over(held, line);
+        write_over(held, line);
         return h;
     }
-    over(sent, line);
+    write_over(sent, line);
     h
 }
 
@@ -131,7 +127,7 @@ fn obey_reply(reply: &mut [u8], h: Hand, word: u64, line: &[u8]) -> Hand {
         return h;
     }
     if word == OVER {
-        over(reply, line);
+        write_over(reply, line);
         return h;
     }
     let mut now = h.now;
@@ -170,7 +166,7 @@ fn obey_sent(sent: &mut [u8], said: &[u8], h: Hand, line: &[u8]) {
     let n = least(now.sent, sent.len());
     let first = beginning(said, h.first);
     let closing = beginning(behind(said, 512), h.closing);
-    crate::desks::sent(first, closing, &mut sent[0..n], line);
+    vectors_desks::sent(first, closing, &mut sent[0..n], line);
 }
 
 fn obey_check(held: &mut [u8], sent: &[u8], reply: &[u8], h: Hand, word: u64, line: &[u8]) {
@@ -178,37 +174,30 @@ fn obey_check(held: &mut [u8], sent: &[u8], reply: &[u8], h: Hand, word: u64, li
     let n = least(now.held, held.len());
     let sent = beginning(sent, now.sent);
     let reply = beginning(reply, now.reply);
-    crate::desks::check(word == PTE, &mut held[0..n], sent, reply, h.words, line);
+    vectors_desks::check(word == PTE, &mut held[0..n], sent, reply, h.words, line);
 }
 
 fn obey_keys(held: &mut [u8], h: Hand, word: u64, line: &[u8]) {
     let now = h.now;
     let n = least(now.held, held.len());
     if word == OPEN {
-        crate::desks::open(&mut held[0..n], line);
+        vectors_desks::open(&mut held[0..n], line);
         return;
     }
     if word == ENTER {
-        crate::desks::enter(&mut held[0..n], line);
+        vectors_desks::enter(&mut held[0..n], line);
         return;
     }
-    crate::desks::values(&held[0..n], line);
+    vectors_desks::values(&held[0..n], line);
 }
 
 // ---- any line
 
-// Whether a word is one of four.
-fn is_of(word: u64, a: u64, b: u64, c: u64, d: u64) -> bool {
-    if word == a {
-        return true;
-    }
-    if word == b {
-        return true;
-    }
-    if word == c {
-        return true;
-    }
-    word == d
+fn sizes(line: &[u8]) {
+    vectors_words::say::told(line, desk_edge::lp_held_size());
+    vectors_words::say::words(b" ");
+    io::print_decimal(1, desk_edge::lp_sent_size() as u64);
+    vectors_words::say::words(b"\n");
 }
 
 // A line that tells how many words are lent, or the sizes; any other is a comment, which is written as it is.
@@ -219,11 +208,11 @@ fn obey_rest(h: Hand, word: u64, line: &[u8]) -> Hand {
         return after;
     }
     if word == SIZES {
-        crate::desks::sizes(line);
+        sizes(line);
         return after;
     }
-    crate::say::words(line);
-    crate::say::words(b"\n");
+    vectors_words::say::words(line);
+    vectors_words::say::words(b"\n");
     after
 }
 
@@ -237,7 +226,7 @@ pub fn obey(
     h: Hand,
     line: &[u8],
 ) -> Hand {
-    let word = crate::words::letters(line);
+    let word = vectors_words::named(line);
     if is_of(word, HELD, INTO, SPOIL, FORGE) {
         return obey_bytes(held, sent, h, word, line);
     }

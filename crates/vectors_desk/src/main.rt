@@ -1,9 +1,6 @@
 // Runs a script of calls on a desk, and writes what each of them gives and the bytes that it changed. The independent model in
 // rust/model runs the same script (its binary `desk_script`, which also makes it); what it writes is this program's stdout.
-mod desks;
 mod lines;
-mod say;
-mod words;
 
 // The lines of a script, one after the other.
 fn obey_all(
@@ -16,7 +13,12 @@ fn obey_all(
 ) {
     let mut hand = lines::empty_hand();
     let mut at = 0;
-    while at < script.len() {
+    // Each line has a byte at least, so that they fall.
+    let mut left = script.len();
+    while 0 < left {
+        if script.len() <= at {
+            return;
+        }
         hand = lines::obey(
             held,
             sent,
@@ -24,9 +26,10 @@ fn obey_all(
             said,
             kept,
             hand,
-            words::line_at(script, at),
+            vectors_words::line_at(script, at),
         );
-        at = words::past(script, at, b'\n');
+        at = vectors_words::past(script, at, b'\n');
+        left -= 1;
     }
 }
 

@@ -1,14 +1,17 @@
 //! The library and the independent model side by side.
 //!
-//!     compare SEED CASES            generated cases, spoiled tables, forged sessions, long batches and calls on desks from this
-//!                                   seed on
+//!     compare SEED CASES            generated cases, spoiled tables, forged sessions, long batches, calls on desks and on the
+//!                                   builder, and files built, received and checked, from this seed on
 //!     compare planted SEED CASES    each planted fault has to be found within these cases
 //!     compare grid [every]          the whole grid of R-2 in reads of many sizes (takes about a minute), or in every size
 //!     compare desk                  every byte that a desk is lent with every value (takes about a minute)
+//!     compare build                 every byte and length that the builder is lent (takes about a minute)
 //!     compare size                  a file to the byte past the size limit (takes about a minute)
 //!
 //! A difference is printed with its case made small; the exit status is then 1.
 #![forbid(unsafe_code)]
+mod build_edge;
+mod built;
 mod damaged;
 mod desk_edge;
 mod edge;
@@ -17,14 +20,19 @@ mod grid;
 mod long;
 mod spoiled;
 
+use build_edge::{BuildEdge, BuildSlip};
 use desk_edge::{DeskEdge, DeskSlip};
 use edge::{Edge, Slip};
+use model::build::{BuildFault, BuildFront, ModelBuild};
+use model::build_case::{self, BuildCall, BuildCounts};
 use model::case::{compare, compare_seen, shrink, Case, Front, ModelFront};
 use model::count::Counts;
 use model::desk::{DeskFault, DeskFront, ModelDesk};
 use model::desk_case::{self, DeskCall, DeskCounts};
 use model::file::Fault;
 use model::generate;
+use model::trip;
+use std::collections::BTreeMap;
 use std::io::{IsTerminal, Write};
 use std::process::exit;
 use std::time::Instant;
@@ -33,6 +41,8 @@ use std::time::Instant;
 const TRIES: usize = 4000;
 /// A long batch comes with one case in so many.
 const LONG: u64 = 250;
+/// A file that is built, received and checked comes with one case in so many.
+const WAY: u64 = 4;
 
 fn show_case(front: &mut dyn Front, what: &str, case: &Case) {
     let small = shrink(case, TRIES, &mut |c| compare(front, c).err().map(|d| d.step));
@@ -58,6 +68,31 @@ fn show_desk(front: &mut dyn DeskFront, what: &str, calls: &[DeskCall]) {
     };
     println!("{what}, made small; call {at} gives {}\nby the model {}", told[0], told[1]);
     small.iter().enumerate().for_each(|(at, call)| println!("{at:3}: {call}"));
+}
+
+fn show_build(front: &mut dyn BuildFront, what: &str, calls: &[BuildCall]) {
+    let small = build_case::shrink(front, calls);
+    let Err((at, told)) = build_case::compare(front, &small) else {
+        println!("{what}: it differs only before it is made small");
+        return;
+    };
+    println!("{what}, made small; call {at} gives {}\nby the model {}", told[0], told[1]);
+    small.iter().enumerate().for_each(|(at, call)| println!("{at:3}: {call}"));
+}
+
+/// A file that is built by one, received by the model's bank, and its replies checked by another; then received by this front,
+/// which has to do as the model's bank did. What it told and went over, or what went wrong.
+fn whole_way(
+    seed: u64,
+    build: &mut dyn BuildFront,
+    desk: &mut dyn DeskFront,
+    front: &mut dyn Front,
+) -> Result<trip::Trip, String> {
+    let trip = trip::trip(seed, build, desk).map_err(|(what, _)| what)?;
+    match compare(front, &trip.case()) {
+        Ok(()) => Ok(trip),
+        Err(d) => Err(format!("at the bank, call {}: {}", d.step, d.what)),
+    }
 }
 
 /// One line that is written over where it goes to a terminal, and now and then a line elsewhere.
@@ -95,6 +130,8 @@ fn run(seed: u64, cases: u64) -> bool {
     let mut desks = DeskCounts::default();
     let front = &mut Edge(Slip::None);
     let desk = &mut DeskEdge(DeskSlip::None);
+    let (mut builds, build) = (BuildCounts::default(), &mut BuildEdge(BuildSlip::None));
+    let (mut trips, mut replies) = (BTreeMap::new(), BTreeMap::new());
     for s in seed..seed + cases {
         let case = generate::case(s);
         if compare_seen(front, &case, &mut |step, answer| counts.see(step, answer)).is_err() {
@@ -129,6 +166,26 @@ fn run(seed: u64, cases: u64) -> bool {
                 differences += 1;
             }
         }
+        let calls = build_case::calls(s);
+        match build_case::compare(build, &calls) {
+            Ok(told) => builds.see(&calls, &told),
+            Err(_) => {
+                show_build(build, &format!("builder, seed {s}"), &calls);
+                differences += 1;
+            }
+        }
+        if s % WAY == 0 {
+            match whole_way(s, build, desk, front) {
+                Ok(trip) => {
+                    trip.shown.into_iter().for_each(|(what, n)| *trips.entry(what).or_insert(0) += n);
+                    trip.told.into_iter().for_each(|word| *replies.entry(word).or_insert(0u64) += 1);
+                }
+                Err(what) => {
+                    println!("file built, received and checked, seed {s}: {what}");
+                    differences += 1;
+                }
+            }
+        }
         progress.tell(s - seed + 1, cases, differences);
         // What one fault breaks is mostly the same; a few differences say enough.
         if differences == 5 {
@@ -149,6 +206,14 @@ fn run(seed: u64, cases: u64) -> bool {
     let missing = desks.missing();
     let never = if missing.is_empty() { "nothing".to_string() } else { missing.join("; ") };
     println!("calls on desks: {}; never came up of them: {never}", desks.told.values().sum::<u64>());
+    let missing = builds.missing();
+    let never = if missing.is_empty() { "nothing".to_string() } else { missing.join("; ") };
+    println!("calls on the builder: {}; never came up of them: {never}", builds.told.values().sum::<u64>());
+    let list =
+        |all: &BTreeMap<String, u64>| all.iter().map(|(what, n)| format!("{what} {n}")).collect::<Vec<_>>().join(", ");
+    println!("files built, received and checked, replies: {}", list(&replies));
+    let trips = trips.into_iter().map(|(what, n)| (what.to_string(), n)).collect();
+    println!("of these files: {}", list(&trips));
     println!(
         "{cases} cases from seed {seed}, {:.0} seconds: {differences} differences",
         progress.began.elapsed().as_secs_f64()
@@ -194,7 +259,19 @@ fn planted(seed: u64, cases: u64) -> bool {
     for slip in DeskSlip::ALL {
         tell(format!("{slip:?}"), found_by_desk(seed, cases, &mut DeskEdge(slip)));
     }
+    for fault in BuildFault::ALL {
+        tell(format!("{fault:?}"), found_by_builder(seed, cases, &mut ModelBuild(fault)));
+    }
+    for slip in BuildSlip::ALL {
+        tell(format!("{slip:?}"), found_by_builder(seed, cases, &mut BuildEdge(slip)));
+    }
     every
+}
+
+/// The same of the builder.
+fn found_by_builder(seed: u64, cases: u64, front: &mut dyn BuildFront) -> Option<(u64, &'static str)> {
+    let mut cases = seed..seed + cases;
+    cases.find(|s| build_case::compare(front, &build_case::calls(*s)).is_err()).map(|s| (s, "builder"))
 }
 
 /// The same of a desk.
@@ -220,6 +297,27 @@ fn desk() -> bool {
     println!("{tried}");
     let (seconds, differences) = (progress.began.elapsed().as_secs_f64(), tried.differences);
     println!("every byte that a desk is lent, {seconds:.0} seconds: {differences} differences");
+    differences == 0
+}
+
+/// Every byte and length that the builder is lent; the first few differences are shown, and the others counted.
+fn build() -> bool {
+    let front = &mut BuildEdge(BuildSlip::None);
+    let (bases, mut tried) = (built::bases(), built::Tried::default());
+    let mut progress = Progress::new("batches");
+    for (done, base) in bases.iter().enumerate() {
+        let shown = tried.parted.len();
+        // The first desk has no keys before, the fifth has.
+        tried.base(front, base, done == 0 || done == 4);
+        for parted in &tried.parted[shown..] {
+            println!("{base}: {}", parted.what);
+            show_build(front, "the same", &parted.calls);
+        }
+        progress.tell(done as u64 + 1, bases.len() as u64, tried.differences);
+    }
+    println!("{tried}");
+    let (seconds, differences) = (progress.began.elapsed().as_secs_f64(), tried.differences);
+    println!("every byte and length that the builder is lent, {seconds:.0} seconds: {differences} differences");
     differences == 0
 }
 
@@ -269,13 +367,14 @@ fn main() {
         ["grid"] => grid(false),
         ["grid", "every"] => grid(true),
         ["desk"] => desk(),
+        ["build"] => build(),
         ["size"] => size(),
         ["planted", a, b] if number(a).is_some() && number(b).is_some() => {
             planted(number(a).unwrap(), number(b).unwrap())
         }
         [a, b] if number(a).is_some() && number(b).is_some() => run(number(a).unwrap(), number(b).unwrap()),
         _ => {
-            eprintln!("usage: compare SEED CASES | planted SEED CASES | grid [every] | desk | size");
+            eprintln!("usage: compare SEED CASES | planted SEED CASES | grid [every] | desk | build | size");
             exit(2);
         }
     };
@@ -312,6 +411,27 @@ mod tests {
         let calls = (1..).map(desk_case::calls).find(|c| desk_case::compare(front, c).is_err()).expect("found");
         let small = desk_case::shrink(front, &calls);
         assert!(desk_case::compare(front, &small).is_err() && small.len() <= 3, "{small:?}");
+    }
+
+    #[test]
+    fn what_differs_in_what_is_built_is_made_small() {
+        let front = &mut BuildEdge(BuildSlip::MakerNotStored);
+        let calls = (1..).map(build_case::calls).find(|c| build_case::compare(front, c).is_err()).expect("found");
+        let small = build_case::shrink(front, &calls);
+        assert!(build_case::compare(front, &small).is_err() && small.len() <= 3, "{small:?}");
+    }
+
+    /// A file's way there and back tells a builder, a desk and a bank that don't agree.
+    #[test]
+    fn a_whole_way_tells_each_of_the_three() {
+        let differs = |build: BuildSlip, desk: DeskSlip, bank: Slip| {
+            let (build, desk, bank) = (&mut BuildEdge(build), &mut DeskEdge(desk), &mut Edge(bank));
+            (1..400).find(|s| whole_way(*s, build, desk, bank).is_err())
+        };
+        assert_eq!(differs(BuildSlip::None, DeskSlip::None, Slip::None), None);
+        assert!(differs(BuildSlip::RecordToItsFirstZero, DeskSlip::None, Slip::None).is_some());
+        assert!(differs(BuildSlip::None, DeskSlip::KeyNotStored, Slip::None).is_some());
+        assert!(differs(BuildSlip::None, DeskSlip::None, Slip::WaitingCrNotKept).is_some());
     }
 
     /// Long batches are accepted now and then, or they would try nothing.

@@ -26,6 +26,8 @@ pub mod refused {
     pub const ARGUMENT: u32 = 11;
     /// The changeover from the previous key is not past.
     pub const CHANGEOVER: u32 = 12;
+    /// A field that was given breaks document 01's format or value rules.
+    pub const FIELD: u32 = 13;
 }
 
 /// The codes of replies: what [`Reply::code`](crate::Reply::code) gives. Those that begin with ACCEPTED are K, the others E.

@@ -185,6 +185,10 @@ impl Sent {
         bytes.try_into().ok().map(|bytes| Sent { bytes })
     }
 
+    pub(crate) fn of_bytes(bytes: [u8; SENT_SIZE]) -> Sent {
+        Sent { bytes }
+    }
+
     /// The bytes to keep until the reply comes.
     pub fn as_bytes(&self) -> &[u8] {
         &self.bytes

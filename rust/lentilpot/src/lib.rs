@@ -43,17 +43,21 @@
 //! # Ok::<(), Box<dyn std::error::Error>>(())
 //! ```
 //!
-//! With the feature `desk` there is the customer's side too: `Desk` checks what the bank sends back. It links an archive of its own,
-//! `libdesk_edge.a`.
+//! With the feature `desk` there is the customer's side too: `Desk` makes the messages round the customer's records and checks what the
+//! bank sends back. It links an archive of its own, `libdesk_edge.a`.
 #![deny(unsafe_code)]
 #![warn(missing_docs)]
 
+#[cfg(feature = "desk")]
+mod build;
 mod constants;
 #[cfg(feature = "desk")]
 mod desk;
 #[allow(unsafe_code)]
 pub mod sys;
 
+#[cfg(feature = "desk")]
+pub use build::{Area, Batch, Built, Heading, KeyMaker, Method, Request, BATCH_SIZE, MESSAGE_SIZE, SUO_SIZE};
 #[cfg(feature = "desk")]
 pub use constants::finding;
 pub use constants::{at, code, refused};
@@ -63,13 +67,13 @@ use std::fmt;
 use std::io::{self, Read};
 
 /// The version of these functions and constants: LP_VERSION of the C header.
-pub const VERSION: &str = "1.4";
+pub const VERSION: &str = "1.5";
 /// The bytes of a table.
 pub const TABLE_SIZE: usize = 49_152;
 /// The longest reply, and the least room that a call asks for one.
 pub const REPLY_ROOM: usize = 317;
 
-/// Why a call was refused: document 01's number, 1 to 12 ([`refused`]). The call changed nothing and took nothing.
+/// Why a call was refused: document 01's number, 1 to 13 ([`refused`]). The call changed nothing and took nothing.
 #[derive(Clone, Copy, PartialEq, Eq, Debug)]
 pub struct Refusal(u32);
 
@@ -94,6 +98,7 @@ impl Refusal {
             refused::GENERATION => "the new transport generation isn't the next",
             refused::ARGUMENT => "an argument is outside its limits",
             refused::CHANGEOVER => "the changeover from the previous key is not past",
+            refused::FIELD => "a field breaks the rules for its format or value",
             _ => "no refusal has this number",
         }
     }

@@ -4,7 +4,11 @@
 #![allow(clippy::too_many_arguments)]
 
 #[cfg(feature = "desk")]
+mod build;
+#[cfg(feature = "desk")]
 mod desk;
+#[cfg(feature = "desk")]
+pub use build::*;
 #[cfg(feature = "desk")]
 pub use desk::*;
 

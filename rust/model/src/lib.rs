@@ -3,6 +3,8 @@
 #![forbid(unsafe_code)]
 
 pub mod bank;
+pub mod build;
+pub mod build_case;
 pub mod calendar;
 pub mod case;
 pub mod checks;
@@ -21,6 +23,7 @@ pub mod previous;
 pub mod reply;
 pub mod size;
 pub mod together;
+pub mod trip;
 
 pub use bank::{set_up, Bank, Customer, KeyKind, Keys, Previous, Stamp, TABLE};
 pub use file::{end, read, Answer, File};

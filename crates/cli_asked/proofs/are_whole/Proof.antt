@@ -6,10 +6,10 @@ use Rattle.cli_asked.proofs.are_whole.Statement.{statement}
 use Rattle.cli_asked.proofs.are_whole.Tie as tie
 
 abbrev Inv-loop : tie.InvT-loop
-Inv-loop n i₀ t3 i = Unit {0}
+Inv-loop p n i₀ t3 i = Unit {0}
 
 abbrev μ-loop : tie.MeasureT-loop
-μ-loop n i₀ t3 i = n - i
+μ-loop p n i₀ t3 i = n - i
 
 pub are-whole-spec : {M : Type 1} → statement M
 are-whole-spec =
@@ -19,6 +19,7 @@ are-whole-spec =
     μ-loop
     (λ c κs. tt)
     (λ c. tt)
+    (λ c κs. tt)
     (λ c κs. tt)
     (λ c. search needs)
     (λ c κs. tt)

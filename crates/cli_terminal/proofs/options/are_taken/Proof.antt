@@ -6,10 +6,10 @@ use Rattle.cli_terminal.proofs.options.are_taken.Statement.{statement}
 use Rattle.cli_terminal.proofs.options.are_taken.Tie as tie
 
 abbrev Inv-loop : tie.InvT-loop
-Inv-loop later explain n at₀ at = Unit {0}
+Inv-loop p taken n at₀ at = Unit {0}
 
 abbrev μ-loop : tie.MeasureT-loop
-μ-loop later explain n at₀ at = n - at
+μ-loop p taken n at₀ at = n - at
 
 pub are-taken-spec : {M : Type 1} → statement M
 are-taken-spec =

@@ -1,0 +1,3 @@
+-- What the contracts of `build_bytes` cite.
+pub mod Layout
+pub mod Bytes

@@ -1,0 +1,4 @@
+-- Laws that belong to no one function.
+pub mod Hearing
+pub mod Cuts
+pub mod Whole

@@ -1,0 +1,21 @@
+-- Laws, in the order in which they build on each other.
+pub mod ByValue
+pub mod Fields
+pub mod Taken
+pub mod Checks
+pub mod Accepts
+pub mod Digest
+pub mod Handed
+pub mod Esi
+pub mod Frames
+pub mod Batch
+pub mod Lines
+pub mod Characters
+pub mod Clean
+pub mod Files
+pub mod Bytes
+pub mod Lent
+pub mod Left
+pub mod Calls
+pub mod Right
+pub mod Worked

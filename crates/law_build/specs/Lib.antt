@@ -1,0 +1,3 @@
+-- The statements.
+pub mod Premises
+pub mod Accepted

@@ -1,0 +1,1 @@
+// The builder and the bank: what is built is accepted. Laws, no code.
