@@ -64,5 +64,10 @@ module _ (h : Held) (maker : KeyMaker) (clock : ℕ) (g : Given) where
 pub added-fits : (x : Batch) (r : List ℕ) → BatchFits x → BatchFits (recordAdded x r)
 unfolding recordAdded
 added-fits x r f =
-    let t = took-fits (enciphered (x .once)) (enciphered-lt (x .once)) r (alike (x .state)) (alike-fits (f .state)) in
-    record { suo = f .suo; once = f .once; working = f .working; state = ended-fits (methodOf (x .suo)) t .last-fits }
+    record {
+      suo = f .suo;
+      once = f .once;
+      working = f .working;
+      state =
+          ended-fits (methodOf (x .suo)) (took-fits (enciphered (x .once)) (enciphered-lt (x .once)) _ _ (alike-fits (f .state))) .last-fits;
+    }
