@@ -26,7 +26,7 @@ fn blocks() {
         #[cfg(openssl)]
         work("a block, OpenSSL's `DES_ecb_encrypt`", || openssl::rounds(KEY, BLOCK, TURNS)),
         work("a block, Lentilpot's `rounds`", || calls::rounds(KEY, BLOCK, TURNS)),
-        work("a block, Lentilpot's `rounds_by`, boxes lent", || calls::rounds_by(KEY, BLOCK, TURNS)),
+        work("a block, Lentilpot's `rounds_by`, table lent", || calls::rounds_by(KEY, BLOCK, TURNS)),
     ];
     let answers = rows(TURNS, works);
     assert!(answers.iter().all(|a| *a == answers[0]), "the blocks differ: {answers:X?}");

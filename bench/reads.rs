@@ -1,16 +1,36 @@
 // What each call costs: reads of several sizes with several tables, and the check of the table that every call makes.
+use crate::calls::{self, File};
 use crate::plain_mac::Mac;
 use crate::timing::{heading, least, row, work};
-use crate::{after_esi, bank, batches, calls, MIB};
+use crate::{after_esi, bank, MIB};
 
 pub fn tables(mac: &Mac) {
     reads(mac);
     checks(mac);
 }
 
+// The least nanoseconds of the plain Rust MAC over the data, of one for each record with its round keys made anew, as each read has to, and
+// of the whole batch in reads of that size.
+fn times(mac: &Mac, file: &File, data: &[u8], most: usize, runs: usize) -> Vec<f64> {
+    let batch = &bank::batch(mac, data, false);
+    let mut works = vec![
+        work("plain", || bank::digest(mac, data, false)),
+        work("records", || {
+            data.split_inclusive(|b| *b == b'\n').fold(0, |a, record| a ^ bank::digest(mac, record, false))
+        }),
+        work("reads", || {
+            file.clone().accepts(batch, most, 317);
+            0
+        }),
+    ];
+    least(runs, &mut works).iter().map(|t| t.0).collect()
+}
+
 fn reads(mac: &Mac) {
     let data = bank::records(MIB, 75, 5, b"\n");
-    heading("Reads, 1 MiB SKE", &["", "ms", "to plain Rust MAC", "µs for each read"]);
+    let columns =
+        ["", "ms", "to plain Rust MAC", "to plain Rust MAC of each record, round keys too", "µs for each read"];
+    heading("Reads, 1 MiB SKE", &columns);
     for (name, customers, stamps, holidays) in
         [("1 customer", 1, 0, 0), ("2 customers", 2, 0, 0), ("32 customers", 32, 0, 0), ("full table", 32, 64, 200)]
     {
@@ -19,10 +39,11 @@ fn reads(mac: &Mac) {
             // 1 MiB by the byte with a full table would take most of a minute
             let short = stamps > 0 && most == 1;
             let data = if short { &data[..81 * 809] } else { &data };
-            let t = batches::times(mac, &file, data, false, runs, &[most]);
-            let each = t[1] / 1e3 / (data.len() as f64 / most as f64);
+            let t = times(mac, &file, data, most, runs);
+            let each = t[2] / 1e3 / (data.len() as f64 / most as f64);
             let name = format!("{name}, reads of {size}{}", if short { ", 64 KiB alone" } else { "" });
-            row(&[name, format!("{:.1}", t[1] / 1e6), format!("{:.2}", t[1] / t[0]), format!("{each:.2}")]);
+            let ratio = |n: f64| format!("{:.2}", t[2] / n);
+            row(&[name, format!("{:.1}", t[2] / 1e6), ratio(t[0]), ratio(t[1]), format!("{each:.2}")]);
         }
     }
 }

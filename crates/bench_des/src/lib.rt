@@ -18,17 +18,17 @@ pub extern "C" fn lp_bench_rounds(key: u64, block: u64, count: u64) -> u64
     x
 }
 
-// The same with the table of boxes taken once and lent.
+// The same with the table taken once and lent.
 #[no_mangle]
 pub extern "C" fn lp_bench_lent(key: u64, block: u64, count: u64) -> u64
     ensures { λ r. ⌜ r ≡ again (scheduleOf key) block count ⌝ }
 {
-    let s = des::box_table();
+    let t = des::joined_table();
     let ks = des::schedule(key);
     let mut x = block;
     let mut left = count;
     while 0 < left {
-        x = des::rounds_by(&s, ks, x);
+        x = des::rounds_by(&t, ks, x);
         left -= 1;
     }
     x

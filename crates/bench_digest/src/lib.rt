@@ -8,9 +8,9 @@ ghost use Rattle.digest.specs.Running.{begun, alike, tookBytes};
 pub extern "C" fn lp_bench_digest(key: u64, bytes: &[u8]) -> u64
     ensures { λ r. ⌜ r ≡ tookBytes (enciphered key) (alike begun) (now (bytes .entry)) .last .chain ⌝ }
 {
-    let boxes = des::box_table();
+    let table = des::joined_table();
     let keys = des::schedule(key);
-    let r = digest::run(&boxes, keys, digest::at_record(digest::start()), bytes);
+    let r = digest::run(&table, keys, digest::at_record(digest::start()), bytes);
     let s = r.last;
     s.chain
 }

@@ -346,9 +346,9 @@ fn digest_with(
 ) -> digest::State
     ensures { λ r. ⌜ r ≡ ended m (tookBytes (enciphered once) (alike state) (now (characters .entry))) .last ⌝ }
 {
-    let boxes = des::box_table();
+    let table = des::joined_table();
     let keys = des::schedule(once);
-    let taken = digest::run(&boxes, keys, digest::at_record(state), characters);
+    let taken = digest::run(&table, keys, digest::at_record(state), characters);
     let end = digest::end_record(m, taken);
     end.last
 }
@@ -386,9 +386,9 @@ fn digest_number(a: digest::Answer) -> u64
 fn batch_digest(once: u64, state: digest::State) -> u64
     ensures { λ r. ⌜ r ≡ digestNumber (answered (enciphered once) state) ⌝ }
 {
-    let boxes = des::box_table();
+    let table = des::joined_table();
     let keys = des::schedule(once);
-    digest_number(digest::finish(&boxes, keys, state))
+    digest_number(digest::finish(&table, keys, state))
 }
 
 // The VAR that closes the batch.

@@ -7,6 +7,7 @@ ghost use Rattle.ground.specs.Choice.{pick};
 ghost use Rattle.ground.specs.Lists.{member};
 ghost use Rattle.des.specs.Des.{cipherBy, scheduleOf};
 ghost use Rattle.des.specs.Tables.{boxes};
+ghost use Rattle.des.specs.Joined.{joinedBy};
 ghost use Rattle.digest.specs.Running.{begun, alike, tookBytes, ended};
 ghost use Rattle.digest.specs.declared.Method.{Method};
 ghost use Rattle.bureau_records.specs.Pieces.{freed, heardByte, heardBytes};
@@ -118,9 +119,9 @@ fn ends_in_cr(piece: &[u8], before: bool) -> bool {
 }
 
 // Characters of a record more.
-fn took(boxes: &[u8; 512], keys: [u64; 16], l: Lines, room: &mut [u8], piece: &[u8]) -> Lines
+fn took(table: &[u32; 512], keys: [u64; 16], l: Lines, room: &mut [u8], piece: &[u8]) -> Lines
     ensures { λ r.
-        ⌜ (r .running ≡ tookBytes (cipherBy (now (boxes .entry)) keys) (l .running) (now (piece .entry))) × (r .held ≡ l .held) ⌝ }
+        ⌜ (r .running ≡ tookBytes (joinedBy (now (table .entry)) keys) (l .running) (now (piece .entry))) × (r .held ≡ l .held) ⌝ }
 {
     let before = l.running;
     let five = l.first;
@@ -132,7 +133,7 @@ fn took(boxes: &[u8; 512], keys: [u64; 16], l: Lines, room: &mut [u8], piece: &[
         piece,
     );
     let first = h.first;
-    let running = digest::run(boxes, keys, before, piece);
+    let running = digest::run(table, keys, before, piece);
     Lines {
         running,
         first,
@@ -154,29 +155,29 @@ fn holding(l: Lines, held: bool) -> Lines
 }
 
 // With a CR that was held back: it is a character of the record after all.
-fn freed(boxes: &[u8; 512], keys: [u64; 16], l: Lines, room: &mut [u8]) -> Lines
-    ensures { λ r. ⌜ r .running ≡ freed (cipherBy (now (boxes .entry)) keys) (heardOf l) ⌝ }
+fn freed(table: &[u32; 512], keys: [u64; 16], l: Lines, room: &mut [u8]) -> Lines
+    ensures { λ r. ⌜ r .running ≡ freed (joinedBy (now (table .entry)) keys) (heardOf l) ⌝ }
 {
     if l.held {
-        return took(boxes, keys, l, room, b"\r");
+        return took(table, keys, l, room, b"\r");
     }
     l
 }
 
 // A piece of a record, without LF; a CR at its end is held back.
-fn pieced(boxes: &[u8; 512], keys: [u64; 16], l: Lines, room: &mut [u8], piece: &[u8]) -> Lines
+fn pieced(table: &[u32; 512], keys: [u64; 16], l: Lines, room: &mut [u8], piece: &[u8]) -> Lines
     requires { ⌜ member 10 (now piece) ≡ false ⌝ }
     ensures { λ r.
-        ⌜ ((m : Method) → heardOf r ≡ heardBytes (cipherBy (now (boxes .entry)) keys) m (heardOf l) (now (piece .entry))) ⌝ }
+        ⌜ ((m : Method) → heardOf r ≡ heardBytes (joinedBy (now (table .entry)) keys) m (heardOf l) (now (piece .entry))) ⌝ }
 {
     let n = piece.len();
     if n == 0 {
         return l;
     }
-    let now = freed(boxes, keys, l, room);
+    let now = freed(table, keys, l, room);
     let solid = cli_words::without_cr(piece);
     let held = solid.len() < n;
-    holding(took(boxes, keys, now, room, solid), held)
+    holding(took(table, keys, now, room, solid), held)
 }
 
 // ---- a record's end
@@ -238,15 +239,15 @@ fn ended(m: digest::Method, crlf: bool, l: Lines, room: &mut [u8]) -> Lines
 // ---- a part of the file of records
 
 // The rest of a record, and its end.
-fn lined(boxes: &[u8; 512], w: Way, l: Lines, room: &mut [u8], piece: &[u8]) -> Lines
+fn lined(table: &[u32; 512], w: Way, l: Lines, room: &mut [u8], piece: &[u8]) -> Lines
     requires { ⌜ member 10 (now piece) ≡ false ⌝ }
     ensures { λ r.
-        ⌜ (r .fault ≡ 0 → let e = cipherBy (now (boxes .entry)) (w .keys) in
+        ⌜ (r .fault ≡ 0 → let e = joinedBy (now (table .entry)) (w .keys) in
         heardOf r ≡ heardByte e (w .method) (heardBytes e (w .method) (heardOf l) (now (piece .entry))) 10) ⌝ }
 {
     let keys = w.keys;
     let m = w.method;
-    let now = pieced(boxes, keys, l, room, piece);
+    let now = pieced(table, keys, l, room, piece);
     ended(m, w.crlf, now, room)
 }
 
@@ -255,7 +256,7 @@ pub fn next(w: Way, l: Lines, part: &[u8], room: &mut [u8]) -> Lines
     ensures { λ r.
         ⌜ (r .fault ≡ 0 → heardOf r ≡ heardBytes (cipherBy boxes (w .keys)) (w .method) (heardOf l) (now (part .entry))) ⌝ }
 {
-    let boxes = des::box_table();
+    let table = des::joined_table();
     let keys = w.keys;
     let n = part.len();
     let mut now = emptied(l);
@@ -263,9 +264,9 @@ pub fn next(w: Way, l: Lines, part: &[u8], room: &mut [u8]) -> Lines
     while at < n {
         let end = cli_words::part_end(part, at, b'\n');
         if n <= end {
-            return pieced(&boxes, keys, now, room, &part[at..n]);
+            return pieced(&table, keys, now, room, &part[at..n]);
         }
-        now = lined(&boxes, w, now, room, &part[at..end]);
+        now = lined(&table, w, now, room, &part[at..end]);
         if now.fault != 0 {
             return now;
         }

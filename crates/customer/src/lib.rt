@@ -1,7 +1,7 @@
-// A customer's record and a bank's settings, by value, and whether each is one that a table may hold.
+// A customer's record and a bank's settings, by value, and the tests of their parts: whether a table may hold them.
 ghost use mathlib.Core.Path.{_≡_};
 ghost use Rattle.customer.specs.Settings.{soundName, soundWho, soundSettings};
-ghost use Rattle.customer.specs.Customer.{soundPrevious, soundKeys, realStamp, soundOnce, soundStamps, soundCustomer};
+ghost use Rattle.customer.specs.Customer.{soundPrevious, soundKeys, realStamp, soundOnce};
 
 // A previous key, with its changeover from the first to the last day.
 pub struct Changeover {
@@ -143,35 +143,6 @@ pub fn is_sound_keys(k: KeyPair) -> bool
     is_sound_previous(k.generation, p)
 }
 
-// The first `count` stamps are real, with sound one-time keys, and the room after them is zero.
-pub fn is_sound_stamps(count: u32, stamps: [u64; 64], once: [u64; 64]) -> bool
-    ensures { λ r. ⌜ r ≡ soundStamps count stamps once ⌝ }
-{
-    let n = count as usize;
-    let mut i = 0;
-    while i < 64 {
-        let s = stamps[i];
-        let k = once[i];
-        if i < n {
-            if !is_real_stamp(s) {
-                return false;
-            }
-            if !is_sound_once(k) {
-                return false;
-            }
-        } else {
-            if s != 0 {
-                return false;
-            }
-            if k != 0 {
-                return false;
-            }
-        }
-        i += 1;
-    }
-    true
-}
-
 pub fn is_sound_settings(s: Settings) -> bool
     ensures { λ r. ⌜ r ≡ soundSettings s ⌝ }
 {
@@ -187,36 +158,4 @@ pub fn is_sound_settings(s: Settings) -> bool
         return true;
     }
     s.floor == 120
-}
-
-pub fn is_sound(c: Customer) -> bool
-    ensures { λ r. ⌜ r ≡ soundCustomer c ⌝ }
-{
-    let who = c.who;
-    if !is_sound_who(&who) {
-        return false;
-    }
-    if 65536 <= c.types {
-        return false;
-    }
-    if c.length.0 < 1 {
-        return false;
-    }
-    if 60 < c.length.0 {
-        return false;
-    }
-    let transport = c.transport;
-    if !is_sound_keys(transport) {
-        return false;
-    }
-    let working = c.working;
-    if !is_sound_keys(working) {
-        return false;
-    }
-    if 64 < c.count {
-        return false;
-    }
-    let stamps = c.stamps;
-    let once = c.once;
-    is_sound_stamps(c.count, stamps, once)
 }

@@ -1,7 +1,7 @@
 -- What every layout's laws say of a customer's and the settings': widths, what is written is read back, and the test is right.
 -- Assumes nothing.
 use mathlib.Core.Path.{_≡_, refl, sym, ap, _∙_}
-use mathlib.Core.Bool.{Bool, true}
+use mathlib.Core.Bool.{Bool, true, false}
 use mathlib.Core.List.{List, [], _∷_}
 use mathlib.Core.Option.{none, some}
 use Prim.Native.Nat.{ℕ, _+_, _≤_, _<_}
@@ -9,18 +9,17 @@ use native.Mathlib.Nat.{add-zero}
 use native.Mathlib.Omega.{arith}
 use borrow.Author.Tests.{le-leb, lt-leb}
 use lib.Dec.{ltb, leb}
-use lib.ListN.{length, replicate, length-replicate}
-use Rattle.ground.specs.Choice.{both, pick}
+use lib.ListN.{length, replicate}
+use Rattle.ground.specs.Choice.{both}
 use Rattle.ground.specs.Lists.{part, same}
-use Rattle.ground.proofs.Choices.{picks, skips}
-use Rattle.ground.proofs.Bools.{both-true}
-use Rattle.ground.proofs.Parts.{part-all}
-use Rattle.ground.proofs.Lists.{zeros-bytes}
+use Rattle.ground.proofs.Choices.{picks, skips, between-below}
+use Rattle.ground.proofs.Bools.{both-true, stop, later}
 use Rattle.splices.specs.Bytes.{num}
 use Rattle.splices.proofs.Splice.{AllBytes}
 use Rattle.codec.specs.Layout.{perhaps, Value, scalar, width, enc, dec, ok, Sized}
 use Rattle.codec.specs.Rows.{widths, cells}
 use Rattle.codec.proofs.Laws.{wide, exact, sized, dec-part}
+use Rattle.customer.specs.Customer.{soundCustomer}
 use Rattle.customer.specs.declared.Previous.{Previous}
 use Rattle.customer.specs.declared.Previous.the-variants.{Nothing, Held}
 use Rattle.customer.specs.declared.Customer.{Customer}
@@ -143,10 +142,6 @@ customer-exact at l b h =
     exact customerShape at l b h
     ∙ ap (λ (v : Value customerShape). same (enc customerShape v) (part at recordWidth l)) (sym (customer-back (dec customerShape at l)))
 
-zeros-ok : ok customerShape 0 (replicate recordWidth 0) ≡ true
-unfolding ok width both pick num part same
-zeros-ok = refl
-
 module _ (at : ℕ) (l : List ℕ) where
   pub exact-at : AllBytes l → at + recordWidth ≤ length l → ok customerShape at l ≡ exactAt at l
   unfolding exactAt
@@ -154,12 +149,16 @@ module _ (at : ℕ) (l : List ℕ) where
       customer-exact at l b h
       ∙ sym (λ i. same (customerBytes (customer-at at l h i)) (raw-fits recordWidth at l h i))
 
-  pub exact-past : length l < at + recordWidth → true ≡ exactAt at l
-  unfolding exactAt customerOf
-  exact-past h =
-      let z : List ℕ = replicate recordWidth 0 in
-      let n = length-replicate {A = ℕ} recordWidth 0 in
-      sym zeros-ok
-      ∙ customer-exact 0 z (zeros-bytes recordWidth) (omega arith)
-      ∙ ap (same (customerBytes (customerOf z))) (part-all z recordWidth (omega arith))
-      ∙ sym (λ i. same (customerBytes (customer-past at l h i)) (raw-past recordWidth at l h i))
+  -- and the customer that they say is sound
+  pub sound-at : AllBytes l → at + recordWidth ≤ length l
+      → both (ok customerShape at l) (soundCustomer (customerFrom (dec customerShape at l)))
+      ≡ both (exactAt at l) (soundCustomer (customerAt at l))
+  sound-at b h = λ i. both (exact-at b h i) (soundCustomer (sym (customer-at at l h) i))
+
+-- zero bytes say no customer: a changeover has at least a day
+zeros-unsound : false ≡ soundCustomer (customerOf (replicate recordWidth 0))
+unfolding soundCustomer customerOf dec width part num
+zeros-unsound = later _ _ (later _ _ (stop _ _ (between-below 1 60 0 (omega arith))))
+
+pub sound-past : (at : ℕ) (l : List ℕ) → length l < at + recordWidth → false ≡ both (exactAt at l) (soundCustomer (customerAt at l))
+sound-past at l h = later _ _ (zeros-unsound ∙ ap soundCustomer (sym (customer-past at l h)))

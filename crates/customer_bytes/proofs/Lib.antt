@@ -1,2 +1,4 @@
 -- Laws that belong to no one function.
 pub mod Laws
+pub mod Days
+pub mod Stamps

@@ -1,2 +1,3 @@
 -- What the contracts of `customer_bytes` cite.
 pub mod Layout
+pub mod Tests

@@ -1,11 +1,17 @@
 // A customer's record and a bank's settings as bytes: read at a place, written at a place, and whether the bytes are exact. Each function
 // goes along the layout's fields with a place `at` that each field's width moves on.
 ghost use mathlib.Core.Path.{_≡_};
-ghost use Prim.Native.Nat.{_+_, _≤_};
+ghost use mathlib.Core.Bool.{true};
+ghost use Prim.Native.Nat.{_+_, _*_, _/_, _≤_};
+ghost use lib.Dec.{eqb};
 ghost use lib.ListN.{length};
 ghost use Rattle.splices.specs.Bytes.{splice, put};
-ghost use Rattle.codec.specs.Layout.{perhaps, dec, ok};
+ghost use Rattle.ground.specs.Choice.{both};
+ghost use Rattle.codec.specs.Layout.{perhaps, numbers, every, dec, ok};
 ghost use Rattle.codec.specs.Rows.{cells};
+ghost use Rattle.calendar.specs.Dates.{realTime};
+ghost use Rattle.customer.specs.Customer.{realStamp, soundStamps, soundCustomer};
+ghost use Rattle.customer_bytes.specs.Tests.{startsDay, realAt, onceAt, zeroAt};
 ghost use Rattle.customer_bytes.specs.Layout.{recordWidth, pairWidth, previousWidth, settingsWidth, previousHeld, pairShape};
 ghost use Rattle.customer_bytes.specs.Layout.{termsShape, customerShape, settingsShape, previousFrom, pairFrom, customerFrom};
 ghost use Rattle.customer_bytes.specs.Layout.{termsTo, settingsFrom, roomOf, customerBytes};
@@ -301,11 +307,178 @@ fn is_exact(t: &[u8], at: usize) -> bool
     is_exact_previous(t, in_pair)
 }
 
-pub fn is_exact_at(t: &[u8], at: usize) -> bool
-    ensures { λ r. ⌜ r ≡ exactAt at (now (t .entry)) ⌝ }
+// ---- soundness, tested on the bytes where they stand
+
+// Whether a stamp is of the day that starts at `day`.
+fn is_of_day(s: u64, day: u64) -> bool
+    requires { ⌜ startsDay day ≡ true ⌝ }
+    ensures { λ r. ⌜ r ≡ eqb (s / 1000000000) (day / 1000000000) ⌝ }
+{
+    if s < day {
+        return false;
+    }
+    s - day < 1000000000
+}
+
+// Whether the digits hhmmssnnn after a day's start are a real time. Minutes are tested with their hours still before them, seconds with
+// what comes after them, so that one division serves both.
+fn is_real_rest(rest: u64) -> bool
+    ensures { λ r. ⌜ r ≡ realTime (rest / 1000) ⌝ }
+{
+    if 240000000 <= rest {
+        return false;
+    }
+    if 60 <= rest / 100000 % 100 {
+        return false;
+    }
+    rest % 100000 < 60000
+}
+
+// Whether a stamp is real, beside a real day's start: a stamp of that day needs its time alone.
+fn is_real_beside(s: u64, day: u64) -> bool
+    requires { ⌜ startsDay day ≡ true ⌝ }
+    ensures { λ r. ⌜ r ≡ realStamp s ⌝ }
+{
+    if is_of_day(s, day) {
+        return is_real_rest(s - day);
+    }
+    customer::is_real_stamp(s)
+}
+
+// The start of a real stamp's day. Stamps stand in the order of acceptance, so it is mostly the one that was kept.
+fn day_beside(s: u64, day: u64) -> u64
+    requires { ⌜ (startsDay day ≡ true) × (realStamp s ≡ true) ⌝ }
+    ensures { λ r. ⌜ startsDay r ≡ true ⌝ }
+{
+    if is_of_day(s, day) {
+        return day;
+    }
+    s / 1000000000 * 1000000000
+}
+
+// Whether the n stamps from `at` on are real. The start of the last one's day is kept; any real day does to start with.
+fn are_real(t: &[u8], at: usize, n: usize) -> bool
+    requires { ⌜ at + 8 * n ≤ length (now t) ⌝ }
+    ensures { λ r. ⌜ r ≡ every (realAt (now (t .entry))) 8 n at ⌝ }
+{
+    let mut day: u64 = 101000000000;
+    let mut p = at;
+    let mut left = n;
+    while left > 0 {
+        let s = codec::read8(t, p);
+        if !is_real_beside(s, day) {
+            return false;
+        }
+        day = day_beside(s, day);
+        p += 8;
+        left -= 1;
+    }
+    true
+}
+
+// Whether the n one-time keys from `at` on are sound.
+fn are_sound_once(t: &[u8], at: usize, n: usize) -> bool
+    requires { ⌜ at + 8 * n ≤ length (now t) ⌝ }
+    ensures { λ r. ⌜ r ≡ every (onceAt (now (t .entry))) 8 n at ⌝ }
+{
+    let mut p = at;
+    let mut left = n;
+    while left > 0 {
+        if !customer::is_sound_once(codec::read8(t, p)) {
+            return false;
+        }
+        p += 8;
+        left -= 1;
+    }
+    true
+}
+
+// Whether the room of n numbers from `at` on is zero.
+fn are_zero(t: &[u8], at: usize, n: usize) -> bool
+    requires { ⌜ at + 8 * n ≤ length (now t) ⌝ }
+    ensures { λ r. ⌜ r ≡ every (zeroAt (now (t .entry))) 8 n at ⌝ }
+{
+    let mut p = at;
+    let mut left = n;
+    while left > 0 {
+        if codec::read8(t, p) != 0 {
+            return false;
+        }
+        p += 8;
+        left -= 1;
+    }
+    true
+}
+
+// The first n of 64 stamps from `at` on are real, with sound one-time keys after all 64, and the room after each is zero.
+fn are_sound_stamps(t: &[u8], at: usize, n: usize) -> bool
+    requires { ⌜ (n ≤ 64) × (at + 512 + 512 ≤ length (now t)) ⌝ }
+    ensures { λ r. ⌜ r ≡ soundStamps n (dec (numbers 64 8) at (now (t .entry))) (dec (numbers 64 8) (at + 512) (now (t .entry))) ⌝ }
+{
+    let once = at + 512;
+    if !are_real(t, at, n) {
+        return false;
+    }
+    if !are_sound_once(t, once, n) {
+        return false;
+    }
+    let used = 8 * n;
+    let free = 64 - n;
+    if !are_zero(t, at + used, free) {
+        return false;
+    }
+    are_zero(t, once + used, free)
+}
+
+// Whether the customer that the bytes say is sound.
+fn is_sound_in(t: &[u8], at: usize) -> bool
+    requires { ⌜ at + recordWidth ≤ length (now t) ⌝ }
+    ensures { λ r. ⌜ r ≡ soundCustomer (customerFrom (dec customerShape at (now (t .entry)))) ⌝ }
+{
+    let mut who = [0u8; 25];
+    codec::read_bytes(&mut who, t, at);
+    if !customer::is_sound_who(&who) {
+        return false;
+    }
+    let at = at + 25;
+    if 65536 <= codec::read2(t, at) {
+        return false;
+    }
+    let in_terms = at + 2;
+    let in_terms = in_terms + 1;
+    let in_terms = in_terms + 1;
+    let days = codec::read1(t, in_terms);
+    if days < 1 {
+        return false;
+    }
+    if 60 < days {
+        return false;
+    }
+    let in_terms = in_terms + 1;
+    if !customer::is_sound_keys(pair_in(t, in_terms)) {
+        return false;
+    }
+    let in_terms = in_terms + 27;
+    if !customer::is_sound_keys(pair_in(t, in_terms)) {
+        return false;
+    }
+    let in_terms = in_terms + 27;
+    let count = codec::read1(t, in_terms);
+    if 64 < count {
+        return false;
+    }
+    are_sound_stamps(t, at + 60, count as usize)
+}
+
+// Whether the bytes are exact, and the customer that they say is sound. Where there is no room for one, there is none.
+pub fn is_sound_at(t: &[u8], at: usize) -> bool
+    ensures { λ r. ⌜ r ≡ both (exactAt at (now (t .entry))) (soundCustomer (customerAt at (now (t .entry)))) ⌝ }
 {
     if !codec::fits(t.len(), at, 1109) {
-        return true;
+        return false;
     }
-    is_exact(t, at)
+    if !is_exact(t, at) {
+        return false;
+    }
+    is_sound_in(t, at)
 }

@@ -2,7 +2,7 @@
 -- Assumes nothing.
 use mathlib.Core.Path.{_≡_, refl, ap, _∙_}
 use mathlib.Core.Bool.{true}
-use mathlib.Core.List.{List, [], _∷_, _++_, append-assoc, append-nil}
+use mathlib.Core.List.{List, [], _∷_}
 use Prim.Native.Nat.{ℕ, zero, suc, _+_, _-_, _*_, _^_, _≤_, _<_}
 use native.Mathlib.Nat.{le-of-suc-le-suc, not-suc-le-zero, lt-of-lt-of-le, mul-le-mul-right, pow-suc}
 use native.Mathlib.Numerals.{add-one}
@@ -10,10 +10,10 @@ use native.Mathlib.Omega.{arith}
 use borrow.Author.Tests.{ltb-true, leb-true}
 use lib.Dec.{ltb, leb}
 use lib.Bits.{bitXor}
-use lib.ListN.{length, getD, take, drop, set, drop-of-length-le}
-use lib.Seq.{drop-cons, take-suc-set, take-all}
-use lib.Pow.{pow-mono}
-use Rattle.des.specs.Des.{bit, select, permute, named, mixed, feistel, rotated, keysFrom, scheduleOf}
+use lib.ListN.{length, getD, drop, drop-of-length-le}
+use lib.Seq.{drop-cons}
+use Rattle.des.specs.Des.{bit, select, permute, named, mixed, rotated, keysFrom, scheduleOf}
+use Rattle.des.specs.Joined.{joinedMixed, joinedRounds}
 use Rattle.des.specs.Tables.{shifts, spread, choice2}
 use Rattle.ground.specs.Choice.{both}
 use Rattle.ground.proofs.Choices.{left, right}
@@ -34,19 +34,6 @@ named-at w (t ∷ ts) e (suc k) h = named-at w ts (named-tail w t ts e) k (le-of
 pub bit-lt : (x k : ℕ) → bit x k < 2
 bit-lt x k = omega arith
 
--- one digit more
-pub push : (r b i : ℕ) → r < 2 ^ i → b < 2 → 2 * r + b < 2 ^ (i + 1)
-push r b i hr hb = rw (add-one i) (omega arith)
-
-pub push-fits : (r b i : ℕ) → i < 64 → r < 2 ^ i → b < 2 → 2 * r + b < 2 ^ 64
-push-fits r b i hi hr hb = lt-of-lt-of-le (push r b i hr hb) (pow-mono {j = 64} (omega arith))
-
--- a table's entry at i is taken
-pub select-drop : (w x acc : ℕ) (ts : List ℕ) (i : ℕ) → i < length ts
-    → select w x acc (drop i ts) ≡ select w x (2 * acc + bit x (w - getD ts i 0)) (drop (i + 1) ts)
-unfolding select
-select-drop w x acc ts i h = rw (add-one i, drop-cons ts i 0 h)
-
 pub select-lt : (w x acc : ℕ) (ts : List ℕ) → select w x acc ts < (acc + 1) * 2 ^ length ts
 unfolding select
 select-lt w x acc [] = omega arith
@@ -65,10 +52,15 @@ unfolding mixed
 mixed-lt s r k = permute-lt spread 32 _
 
 -- one round
-pub feistel-drop : (s ks : List ℕ) (i l r : ℕ) → i < length ks
-    → feistel s (drop i ks) l r ≡ feistel s (drop (i + 1) ks) r (bitXor l (mixed s r (getD ks i 0)))
-unfolding feistel
-feistel-drop s ks i l r h = rw (add-one i, drop-cons ks i 0 h)
+pub rounds-drop : (t ks : List ℕ) (i l r : ℕ) → i < length ks
+    → joinedRounds t (drop i ks) l r ≡ joinedRounds t (drop (i + 1) ks) r (bitXor l (joinedMixed t r (getD ks i 0)))
+unfolding joinedRounds
+rounds-drop t ks i l r h = rw (add-one i, drop-cons ks i 0 h)
+
+-- all sixteen
+pub rounds-done : (t ks : List ℕ) (i l r : ℕ) → 16 ≤ i → length ks ≡ 16 → joinedRounds t (drop i ks) l r ≡ r * 2 ^ 32 + l
+unfolding joinedRounds
+rounds-done t ks i l r h e = rw (drop-of-length-le ks {i = i} (omega arith))
 
 -- a list by its elements from the i-th on
 abbrev pub entries : List ℕ → ℕ → ℕ → List ℕ
@@ -80,35 +72,12 @@ entries-drop l zero i h = drop-of-length-le l {i = i} (omega arith)
 entries-drop l (suc n) i h =
     drop-cons l i 0 (omega arith) ∙ ap (λ (m : List ℕ). getD l i 0 ∷ m) (entries-drop l n (suc i) (omega arith))
 
--- a shift is one or two
-pub shift-range : (i : ℕ) → i < 16 → (0 < getD shifts i 0) × (getD shifts i 0 ≤ 2)
-unfolding named both
-shift-range i h = named-at 2 shifts refl i h
-
 pub rotated-lt : (s c : ℕ) → 0 < s → s ≤ 2 → c < 2 ^ 28 → rotated s c < 2 ^ 28
 unfolding rotated
 rotated-lt zero c p q h = omega arith
 rotated-lt (suc zero) c p q h = omega arith
 rotated-lt (suc (suc zero)) c p q h = omega arith
 rotated-lt (suc (suc (suc s))) c p q h = omega arith
-
--- one round key
-pub keys-step : (ks : List ℕ) (i c d : ℕ) → i < 16 → length ks ≡ 16
-    → take (i + 1) (set ks i (permute choice2 56 (rotated (getD shifts i 0) c * 2 ^ 28 + rotated (getD shifts i 0) d)))
-    ++ keysFrom (drop (i + 1) shifts) (rotated (getD shifts i 0) c) (rotated (getD shifts i 0) d)
-    ≡ take i ks ++ keysFrom (drop i shifts) c d
-unfolding keysFrom
-keys-step ks i c d h e =
-    rw (add-one i, drop-cons shifts i 0 h, take-suc-set ks i _ (omega arith), append-assoc)
-
--- all sixteen
-pub keys-done : (ks : List ℕ) (i c d : ℕ) → 16 ≤ i → length ks ≡ 16 → take i ks ++ keysFrom (drop i shifts) c d ≡ ks
-unfolding keysFrom
-keys-done ks i c d h e = rw (drop-of-length-le shifts {i = i} h, take-all i ks (omega arith), append-nil)
-
-pub feistel-done : (s ks : List ℕ) (i l r : ℕ) → 16 ≤ i → length ks ≡ 16 → feistel s (drop i ks) l r ≡ r * 2 ^ 32 + l
-unfolding feistel
-feistel-done s ks i l r h e = rw (drop-of-length-le ks {i = i} (omega arith))
 
 -- ---- the round keys
 

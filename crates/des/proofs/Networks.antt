@@ -1,19 +1,19 @@
 -- The quick parts are what FIPS 46-3 says, by tests at the powers of two: the delta swaps IP and its inverse, the wrapped number's
--- groups those of E, the shifts and masks P.
+-- groups those of E.
 -- Assumes nothing.
-use mathlib.Core.Path.{_≡_, sym, ap, _∙_}
+use mathlib.Core.Path.{_≡_, sym, ap, ap₂, _∙_}
 use mathlib.Core.List.{List, [], _∷_}
 use Prim.Native.Nat.{ℕ, _+_, _-_, _*_, _/_, _%_, _^_, _<_}
-use native.Mathlib.Omega.{arith}
-use lib.Bits.{bitXor, bitAnd, xor-shr, xor-mod}
+use lib.Bits.{bitXor, bitAnd, xor-shr, xor-mod, xor-lt}
 use lib.Dec.{T, lit<}
 use lib.ListN.{getD}
 use mathlib.Core.Bool.{Bool}
 use Rattle.ground.specs.Choice.{both}
 use Rattle.ground.proofs.Table.{at}
-use Rattle.des.specs.Tables.{initial, final, expansion, spread}
-use Rattle.des.specs.Des.{select, permute, box, substituteFrom, substituted}
-use Rattle.des.specs.Quick.{deltaSwap, wrapped, Term, terms, twice, places, spreadNet}
+use Rattle.des.specs.Tables.{initial, final, expansion}
+use Rattle.des.specs.Des.{select, permute}
+use Rattle.des.specs.Joined.{entriesFrom, joinedMixed}
+use Rattle.des.specs.Quick.{deltaSwap, wrapped}
 use Rattle.des.proofs.Linear.{Linear, lin-id, lin-shr, lin-shl, lin-mod, lin-and, lin-xor, lin-after, lin-permute, same, agree}
 
 -- ---- IP and its inverse
@@ -97,56 +97,44 @@ pub group-at : (i : ℕ) → i < 8 → (r k : ℕ) → r < 2 ^ 32
 unfolding group-test
 group-at i hi r k h = group (28 - 4 * i) (42 - 6 * i) (groups-pass i hi) r k h
 
--- ---- P as shifts and masks
+-- the entry of box i for its group
+entry-of : (t : List ℕ) (r k x i : ℕ) → i < 8 → r < 2 ^ 32 → x ≡ wrapped r
+    → getD t (64 * i + bitXor (x / 2 ^ (28 - 4 * i)) (k / 2 ^ (42 - 6 * i)) % 64) 0
+    ≡ getD t (64 * i + bitXor (permute expansion 32 r) k / 2 ^ (42 - 6 * i) % 64) 0
+entry-of t r k x i hi h ex =
+    ap (λ (y : ℕ). getD t (64 * i + bitXor (y / 2 ^ (28 - 4 * i)) (k / 2 ^ (42 - 6 * i)) % 64) 0) ex
+    ∙ ap (λ (v : ℕ). getD t (64 * i + v) 0) (group-at i hi r k h)
 
-lin-terms : (f g : ℕ → ℕ) → Linear f → Linear g → (ts : List Term) → Linear (λ x. terms (f x) (g x) ts)
-lin-terms f g lf lg [] = lg
-lin-terms f g lf lg (t ∷ ts) =
-    lin-terms f (λ x. bitXor (g x) (bitAnd (f x / 2 ^ t .by) (t .mask))) lf
-    (lin-xor g lg (λ x. bitAnd (f x / 2 ^ t .by) (t .mask)) (lin-and (λ x. f x / 2 ^ t .by) (lin-shr f lf (t .by)) (t .mask))) ts
+-- the entries of the quick groups, one after the other
+pub mixed-from : (t : List ℕ) (r k x e0 e1 e2 e3 e4 e5 e6 e7 : ℕ) → r < 2 ^ 32 → x ≡ wrapped r
+    → e0 ≡ getD t (64 * 0 + bitXor (x / 2 ^ 28) (k / 2 ^ 42) % 64) 0
+    → e1 ≡ getD t (64 * 1 + bitXor (x / 2 ^ 24) (k / 2 ^ 36) % 64) 0
+    → e2 ≡ getD t (64 * 2 + bitXor (x / 2 ^ 20) (k / 2 ^ 30) % 64) 0
+    → e3 ≡ getD t (64 * 3 + bitXor (x / 2 ^ 16) (k / 2 ^ 24) % 64) 0
+    → e4 ≡ getD t (64 * 4 + bitXor (x / 2 ^ 12) (k / 2 ^ 18) % 64) 0
+    → e5 ≡ getD t (64 * 5 + bitXor (x / 2 ^ 8) (k / 2 ^ 12) % 64) 0
+    → e6 ≡ getD t (64 * 6 + bitXor (x / 2 ^ 4) (k / 2 ^ 6) % 64) 0
+    → e7 ≡ getD t (64 * 7 + bitXor (x / 2 ^ 0) (k / 2 ^ 0) % 64) 0
+    → bitXor (bitXor (bitXor (bitXor (bitXor (bitXor (bitXor e0 e1) e2) e3) e4) e5) e6) e7 ≡ joinedMixed t r k
+unfolding joinedMixed entriesFrom
+mixed-from t r k x e0 e1 e2 e3 e4 e5 e6 e7 h ex p0 p1 p2 p3 p4 p5 p6 p7 =
+    ap₂ bitXor
+    (ap₂ bitXor
+    (ap₂ bitXor
+    (ap₂ bitXor
+    (ap₂ bitXor
+    (ap₂ bitXor
+    (ap₂ bitXor (p0 ∙ entry-of t r k x 0 (lit< tt) h ex) (p1 ∙ entry-of t r k x 1 (lit< tt) h ex))
+    (p2 ∙ entry-of t r k x 2 (lit< tt) h ex))
+    (p3 ∙ entry-of t r k x 3 (lit< tt) h ex))
+    (p4 ∙ entry-of t r k x 4 (lit< tt) h ex))
+    (p5 ∙ entry-of t r k x 5 (lit< tt) h ex))
+    (p6 ∙ entry-of t r k x 6 (lit< tt) h ex))
+    (p7 ∙ entry-of t r k x 7 (lit< tt) h ex)
 
-lin-twice : Linear twice
-lin-twice =
-    lin-xor (λ x. x % 2 ^ 32) (lin-mod (λ x. x) lin-id 32) (λ x. x % 2 ^ 32 * 2 ^ 32 % 2 ^ 64)
-    (lin-mod (λ x. x % 2 ^ 32 * 2 ^ 32) (lin-shl (λ x. x % 2 ^ 32) (lin-mod (λ x. x) lin-id 32) 32) 64)
-
--- P looks at the 32 low bits alone
-pub spread-net : (x : ℕ) → x < 2 ^ 64 → spreadNet x ≡ permute spread 32 x
-unfolding select both
-spread-net x h =
-    agree spreadNet (permute spread 32)
-    (lin-terms twice (λ x. bitAnd (twice x / 2 ^ 17) 0x80000000) lin-twice
-    (lin-and (λ x. twice x / 2 ^ 17) (lin-shr twice lin-twice 17) 0x80000000) places)
-    (lin-permute spread 32) 64 tt x h
-
--- the boxes of the quick groups, one after the other
-pub substituted-from : (s : List ℕ) (r k x e0 e1 e2 e3 e4 e5 e6 e7 : ℕ) → r < 2 ^ 32 → x ≡ wrapped r
-    → e0 ≡ box s 0 (bitXor (x / 2 ^ 28) (k / 2 ^ 42) % 64)
-    → e1 ≡ box s 1 (bitXor (x / 2 ^ 24) (k / 2 ^ 36) % 64)
-    → e2 ≡ box s 2 (bitXor (x / 2 ^ 20) (k / 2 ^ 30) % 64)
-    → e3 ≡ box s 3 (bitXor (x / 2 ^ 16) (k / 2 ^ 24) % 64)
-    → e4 ≡ box s 4 (bitXor (x / 2 ^ 12) (k / 2 ^ 18) % 64)
-    → e5 ≡ box s 5 (bitXor (x / 2 ^ 8) (k / 2 ^ 12) % 64)
-    → e6 ≡ box s 6 (bitXor (x / 2 ^ 4) (k / 2 ^ 6) % 64)
-    → e7 ≡ box s 7 (bitXor (x / 2 ^ 0) (k / 2 ^ 0) % 64)
-    → 16 * (16 * (16 * (16 * (16 * (16 * (16 * e0 + e1) + e2) + e3) + e4) + e5) + e6) + e7
-    ≡ substituted s (bitXor (permute expansion 32 r) k)
-unfolding substituteFrom
-substituted-from s r k x e0 e1 e2 e3 e4 e5 e6 e7 h ex p0 p1 p2 p3 p4 p5 p6 p7 =
-    let h0 : e0 ≡ box s 0 (bitXor (permute expansion 32 r) k / 2 ^ 42 % 64) = p0
-    ∙ ap (λ (n : ℕ). box s 0 (bitXor (n / 2 ^ 28) (k / 2 ^ 42) % 64)) ex ∙ ap (box s 0) (group-at 0 (lit< tt) r k h) in
-    let h1 : e1 ≡ box s 1 (bitXor (permute expansion 32 r) k / 2 ^ 36 % 64) = p1
-    ∙ ap (λ (n : ℕ). box s 1 (bitXor (n / 2 ^ 24) (k / 2 ^ 36) % 64)) ex ∙ ap (box s 1) (group-at 1 (lit< tt) r k h) in
-    let h2 : e2 ≡ box s 2 (bitXor (permute expansion 32 r) k / 2 ^ 30 % 64) = p2
-    ∙ ap (λ (n : ℕ). box s 2 (bitXor (n / 2 ^ 20) (k / 2 ^ 30) % 64)) ex ∙ ap (box s 2) (group-at 2 (lit< tt) r k h) in
-    let h3 : e3 ≡ box s 3 (bitXor (permute expansion 32 r) k / 2 ^ 24 % 64) = p3
-    ∙ ap (λ (n : ℕ). box s 3 (bitXor (n / 2 ^ 16) (k / 2 ^ 24) % 64)) ex ∙ ap (box s 3) (group-at 3 (lit< tt) r k h) in
-    let h4 : e4 ≡ box s 4 (bitXor (permute expansion 32 r) k / 2 ^ 18 % 64) = p4
-    ∙ ap (λ (n : ℕ). box s 4 (bitXor (n / 2 ^ 12) (k / 2 ^ 18) % 64)) ex ∙ ap (box s 4) (group-at 4 (lit< tt) r k h) in
-    let h5 : e5 ≡ box s 5 (bitXor (permute expansion 32 r) k / 2 ^ 12 % 64) = p5
-    ∙ ap (λ (n : ℕ). box s 5 (bitXor (n / 2 ^ 8) (k / 2 ^ 12) % 64)) ex ∙ ap (box s 5) (group-at 5 (lit< tt) r k h) in
-    let h6 : e6 ≡ box s 6 (bitXor (permute expansion 32 r) k / 2 ^ 6 % 64) = p6
-    ∙ ap (λ (n : ℕ). box s 6 (bitXor (n / 2 ^ 4) (k / 2 ^ 6) % 64)) ex ∙ ap (box s 6) (group-at 6 (lit< tt) r k h) in
-    let h7 : e7 ≡ box s 7 (bitXor (permute expansion 32 r) k / 2 ^ 0 % 64) = p7
-    ∙ ap (λ (n : ℕ). box s 7 (bitXor (n / 2 ^ 0) (k / 2 ^ 0) % 64)) ex ∙ ap (box s 7) (group-at 7 (lit< tt) r k h) in
-    omega arith
+-- eight numbers of w bits joined have w bits
+pub joined-lt : (w a b c d e f g h : ℕ) → a < 2 ^ w → b < 2 ^ w → c < 2 ^ w → d < 2 ^ w → e < 2 ^ w → f < 2 ^ w → g < 2 ^ w → h < 2 ^ w
+    → bitXor (bitXor (bitXor (bitXor (bitXor (bitXor (bitXor a b) c) d) e) f) g) h < 2 ^ w
+joined-lt w a b c d e f g h la lb lc ld le lf lg lh =
+    xor-lt w _ h
+    (xor-lt w _ g (xor-lt w _ f (xor-lt w _ e (xor-lt w _ d (xor-lt w _ c (xor-lt w a b la lb) lc) ld) le) lf) lg) lh

@@ -1,5 +1,5 @@
 -- DES (FIPS 46-3, ANSI X3.92) on natural numbers: a block of w bits is a number below 2 ^ w, its leftmost bit the highest.
--- The boxes are handed in as a list of 512 entries, so that code may lend any table; FIPS 46-3's own is `boxes`.
+-- The boxes are handed in as a list of 512 entries; FIPS 46-3's own is `boxes`.
 -- Assumes nothing.
 use mathlib.Core.Bool.{Bool, true}
 use mathlib.Core.List.{List, [], _∷_, reverse}

@@ -3,18 +3,15 @@
 use mathlib.Core.Path.{_≡_, refl, sym, _∙_}
 use mathlib.Core.Bool.{Bool, true, false}
 use mathlib.Core.List.{List, [], _∷_, _++_}
-use Prim.Native.Nat.{ℕ, _+_, _-_, _*_, _%_, _^_, _≤_, _<_}
-use native.Mathlib.Numerals.{add-one}
+use Prim.Native.Nat.{ℕ, _+_, _-_, _*_, _%_, _^_, _<_}
 use native.Mathlib.Omega.{arith}
 use borrow.Author.Tests.{eq-eqb, ne-eqb, eqb-true}
 use lib.Bits.{bitXor}
 use lib.Dec.{eqb}
-use lib.ListN.{length, getD, drop, drop-of-length-le}
-use lib.Seq.{drop-cons}
+use lib.ListN.{length}
 use Rattle.ground.specs.Choice.{both, pick}
 use Rattle.ground.proofs.Choices.{picks, skips}
 use Rattle.ground.proofs.Table.{each}
-use Rattle.text.specs.Characters.{blank, internal}
 use Rattle.digest.specs.Running.{begun, pushed, fedByte, fedBytes, closed, tookByte, tookBytes}
 use Rattle.digest.specs.declared.State.{State}
 use Rattle.digest.specs.declared.Running.{Running}
@@ -37,20 +34,6 @@ module _ (e : ℕ → ℕ) (s : State) (b : ℕ) {block n : ℕ} where
       → record { chain = s .chain; block = block; n = n } ≡ fedByte e s b
   unfolding fedByte
   fed-other h p k = rw (p, k) (sym (skips _ _ _ (ne-eqb _ _ h)))
-
--- ---- one character
-
-module _ (e : ℕ → ℕ) (r : Running) (b : ℕ) {next : State} (made : next ≡ fedByte e (r .last) (internal b)) where
-  took-made : {solid : State} → solid ≡ pick (eqb b blank) (r .solid) (fedByte e (r .last) (internal b))
-      → record { start = r .start; solid = solid; last = next } ≡ tookByte e r b
-  unfolding tookByte
-  took-made p = rw (p, made)
-
-  pub took-blank : b ≡ blank → record { start = r .start; solid = r .solid; last = next } ≡ tookByte e r b
-  took-blank h = took-made (sym (picks _ _ _ (eq-eqb _ _ h)))
-
-  pub took-other : (b ≡ blank → ⊥) → record { start = r .start; solid = next; last = next } ≡ tookByte e r b
-  took-other h = took-made (made ∙ sym (skips _ _ _ (ne-eqb _ _ h)))
 
 -- ---- the end
 
@@ -85,16 +68,6 @@ pub took-append : (e : ℕ → ℕ) (r : Running) (a b : List ℕ) → tookBytes
 unfolding tookBytes
 took-append e r [] b = refl
 took-append e r (x ∷ a) b = took-append e (tookByte e r x) a b
-
-module _ (e : ℕ → ℕ) (r : Running) (l : List ℕ) (i : ℕ) where
-  -- the character at i is taken
-  pub took-drop : i < length l → tookBytes e r (drop i l) ≡ tookBytes e (tookByte e r (getD l i 0)) (drop (i + 1) l)
-  unfolding tookBytes
-  took-drop h = rw (add-one i, drop-cons l i 0 h)
-
-  pub took-done : length l ≤ i → tookBytes e r (drop i l) ≡ r
-  unfolding tookBytes
-  took-done h = rw (drop-of-length-le l {i = i} h)
 
 -- the characters are counted
 counted : (t : Bool) (a b : State) (n : ℕ) → a .n ≡ n → b .n ≡ n → pick t a b .n ≡ n

@@ -21,6 +21,11 @@ begun = record { chain = 0; block = 0; n = 0 }
 abbrev pub pushed : ℕ → ℕ → ℕ
 pushed block b = (block * 256 + b) % 2 ^ 64
 
+-- and with more
+unfoldable pub pushedAll : ℕ → List ℕ → ℕ
+pushedAll block [] = block
+pushedAll block (b ∷ l) = pushedAll (pushed block b) l
+
 -- one byte more: the eighth closes the block
 unfoldable pub fedByte : (ℕ → ℕ) → State → ℕ → State
 fedByte e s b =
@@ -62,6 +67,11 @@ tookBytes e r (b ∷ l) = tookBytes e (tookByte e r b) l
 unfoldable pub ended : Method → Running → Running
 ended Skh r = alike (r .solid)
 ended Ske r = alike (r .last)
+
+-- a record's last characters, with the state that its end leaves: what isn't kept never goes into the digest
+unfoldable pub tookLast : (ℕ → ℕ) → Method → Running → List ℕ → Running
+tookLast e m r l =
+    record { start = r .start; solid = ended m (tookBytes e r l) .last; last = ended m (tookBytes e r l) .last }
 
 -- records one after the other, each with its end
 unfoldable pub tookRecords : (ℕ → ℕ) → Method → Running → List (List ℕ) → Running

@@ -1,10 +1,13 @@
 // The digest of a batch and the checksum of a message: the MAC of ISO 8731-1 over the internal code, as it runs.
 ghost use mathlib.Core.Path.{_≡_};
-ghost use Prim.Native.Nat.{_<_};
-ghost use lib.ListN.{take};
-ghost use Rattle.des.specs.Des.{cipherBy};
+ghost use mathlib.Core.List.{map};
+ghost use Prim.Native.Nat.{_<_, _≤_};
+ghost use lib.ListN.{length, take};
+ghost use Rattle.text.specs.Characters.{internal};
+ghost use Rattle.des.specs.Joined.{joinedBy};
 ghost use Rattle.digest.specs.Mac.{checksumOf};
-ghost use Rattle.digest.specs.Running.{begun, fedByte, closed, answered, alike, tookByte, tookBytes, ended};
+ghost use Rattle.digest.specs.Kept.{stripped};
+ghost use Rattle.digest.specs.Running.{begun, pushedAll, fedByte, fedBytes, closed, answered, alike, tookBytes, tookLast, ended};
 
 // SKH leaves out the blanks at the end of each record, SKE keeps them.
 pub enum Method {
@@ -43,13 +46,13 @@ pub fn start() -> State
 }
 
 // The digest with one byte of the internal code more.
-pub fn feed(boxes: &[u8; 512], keys: [u64; 16], s: State, b: u8) -> State
-    ensures { λ r. ⌜ r ≡ fedByte (cipherBy (now (boxes .entry)) keys) s b ⌝ }
+pub fn feed(table: &[u32; 512], keys: [u64; 16], s: State, b: u8) -> State
+    ensures { λ r. ⌜ r ≡ fedByte (joinedBy (now (table .entry)) keys) s b ⌝ }
 {
     let block = (s.block << 8) + wide(b);
     let n = std::num::wrapping_add_u64(s.n, 1);
     if s.n % 8 == 7 {
-        let chain = des::rounds_by(boxes, keys, s.chain ^ block);
+        let chain = des::rounds_by(table, keys, s.chain ^ block);
         return State { chain, block: 0, n };
     }
     State {
@@ -76,40 +79,121 @@ pub fn at_record(s: State) -> Running
     }
 }
 
-// A record with one character more.
-fn took(boxes: &[u8; 512], keys: [u64; 16], r: Running, b: u8) -> Running
-    ensures { λ x. ⌜ x ≡ tookByte (cipherBy (now (boxes .entry)) keys) r b ⌝ }
+// The block on its way with more characters.
+fn packed(block: u64, bytes: &[u8]) -> u64
+    ensures { λ r. ⌜ r ≡ pushedAll block (map internal (now (bytes .entry))) ⌝ }
+{
+    let mut x = block;
+    let mut i = 0;
+    while i < bytes.len() {
+        x = (x << 8) + wide(text::internal_code(bytes[i]));
+        i += 1;
+    }
+    x
+}
+
+// The digest with more characters. Between two blocks IP and its inverse undo each other, so the chain is kept without them until the last.
+fn fed(table: &[u32; 512], keys: [u64; 16], s: State, bytes: &[u8]) -> State
+    ensures { λ r. ⌜ r ≡ fedBytes (joinedBy (now (table .entry)) keys) s (map internal (now (bytes .entry))) ⌝ }
+{
+    let mut i = (8 - s.n % 8) as usize;
+    if bytes.len() < i {
+        return State {
+            chain: s.chain,
+            block: packed(s.block, bytes),
+            n: std::num::wrapping_add_u64(s.n, bytes.len() as u64),
+        };
+    }
+    let mut y = des::between(
+        table,
+        keys,
+        des::first(s.chain ^ packed(s.block, &bytes[..i])),
+    );
+    let mut n = std::num::wrapping_add_u64(s.n, i as u64);
+    while 8 <= bytes.len() - i {
+        let block = packed(0, &bytes[i..i + 8]);
+        y = des::between(table, keys, y ^ des::first(block));
+        n = std::num::wrapping_add_u64(n, 8);
+        i += 8;
+    }
+    State {
+        chain: des::last(y),
+        block: packed(0, &bytes[i..]),
+        n: std::num::wrapping_add_u64(n, (bytes.len() - i) as u64),
+    }
+}
+
+// How many characters stand before the blanks at the end.
+fn solid_length(bytes: &[u8]) -> usize
+    ensures { λ r. ⌜ (r ≤ length (now (bytes .entry))) × (take r (now (bytes .entry)) ≡ stripped (now (bytes .entry))) ⌝ }
+{
+    let mut n = bytes.len();
+    while 0 < n {
+        if bytes[n - 1] != 0x20 {
+            break;
+        }
+        n -= 1;
+    }
+    n
+}
+
+// A record with characters more: the solid state is the one before the blanks at their end, if they aren't blanks alone.
+pub fn run(table: &[u32; 512], keys: [u64; 16], r: Running, bytes: &[u8]) -> Running
+    ensures { λ x. ⌜ x ≡ tookBytes (joinedBy (now (table .entry)) keys) r (now (bytes .entry)) ⌝ }
 {
     let start = r.start;
-    let solid = r.solid;
     let last = r.last;
-    let code = text::internal_code(b);
-    let next = feed(boxes, keys, last, code);
-    if b == 0x20 {
+    let n = solid_length(bytes);
+    if n == 0 {
+        let solid = r.solid;
+        let next = fed(table, keys, last, bytes);
         return Running {
             start,
             solid,
             last: next,
         };
     }
+    let solid = fed(table, keys, last, &bytes[..n]);
+    let next = fed(table, keys, solid, &bytes[n..]);
     Running {
         start,
-        solid: next,
+        solid,
         last: next,
     }
 }
 
-// A record with characters more.
-pub fn run(boxes: &[u8; 512], keys: [u64; 16], r: Running, bytes: &[u8]) -> Running
-    ensures { λ x. ⌜ x ≡ tookBytes (cipherBy (now (boxes .entry)) keys) r (now (bytes .entry)) ⌝ }
+// The solid state after characters more: the blanks at their end aren't enciphered.
+fn solid_after(table: &[u32; 512], keys: [u64; 16], r: Running, bytes: &[u8]) -> State
+    ensures { λ x. ⌜ x ≡ tookBytes (joinedBy (now (table .entry)) keys) r (now (bytes .entry)) .solid ⌝ }
 {
-    let mut x = r;
-    let mut i = 0;
-    while i < bytes.len() {
-        x = took(boxes, keys, x, bytes[i]);
-        i += 1;
+    let n = solid_length(bytes);
+    if n == 0 {
+        return r.solid;
     }
-    x
+    let before = r.last;
+    fed(table, keys, before, &bytes[..n])
+}
+
+// A record with its last characters: the state is the one that its end leaves.
+pub fn run_last(table: &[u32; 512], keys: [u64; 16], m: Method, r: Running, bytes: &[u8]) -> Running
+    ensures { λ x. ⌜ x ≡ tookLast (joinedBy (now (table .entry)) keys) m r (now (bytes .entry)) ⌝ }
+{
+    let start = r.start;
+    let whole = r.last;
+    match m {
+        Method::Skh => settled(start, solid_after(table, keys, r, bytes)),
+        Method::Ske => settled(start, fed(table, keys, whole, bytes)),
+    }
+}
+
+fn settled(start: State, last: State) -> Running
+    ensures { λ r. ⌜ r ≡ record { start = start; solid = last; last = last } ⌝ }
+{
+    Running {
+        start,
+        solid: last,
+        last,
+    }
 }
 
 // A record's end.
@@ -125,24 +209,24 @@ pub fn end_record(m: Method, r: Running) -> Running
 }
 
 // The MAC where it stops here.
-fn close(boxes: &[u8; 512], keys: [u64; 16], s: State) -> u64
-    ensures { λ r. ⌜ r ≡ closed (cipherBy (now (boxes .entry)) keys) s ⌝ }
+fn close(table: &[u32; 512], keys: [u64; 16], s: State) -> u64
+    ensures { λ r. ⌜ r ≡ closed (joinedBy (now (table .entry)) keys) s ⌝ }
 {
     let k = s.n % 8;
     if k == 0 {
         return s.chain;
     }
-    des::rounds_by(boxes, keys, s.chain ^ (s.block << (64 - 8 * k)))
+    des::rounds_by(table, keys, s.chain ^ (s.block << (64 - 8 * k)))
 }
 
 // The digest's answer.
-pub fn finish(boxes: &[u8; 512], keys: [u64; 16], s: State) -> Answer
-    ensures { λ r. ⌜ r ≡ answered (cipherBy (now (boxes .entry)) keys) s ⌝ }
+pub fn finish(table: &[u32; 512], keys: [u64; 16], s: State) -> Answer
+    ensures { λ r. ⌜ r ≡ answered (joinedBy (now (table .entry)) keys) s ⌝ }
 {
     if s.n == 0 {
         return Answer::NoCharacters;
     }
-    Answer::Is(close(boxes, keys, s))
+    Answer::Is(close(table, keys, s))
 }
 
 // The characters that a checksum covers.
@@ -159,9 +243,9 @@ fn covered(message: &[u8]) -> &[u8]
 pub fn checksum(key: u64, message: &[u8]) -> u64
     ensures { λ r. ⌜ r ≡ checksumOf key (now (message .entry)) ⌝ }
 {
-    let boxes = des::box_table();
+    let table = des::joined_table();
     let keys = des::schedule(key);
-    let r = run(&boxes, keys, at_record(start()), covered(message));
+    let r = run(&table, keys, at_record(start()), covered(message));
     let s = r.last;
-    close(&boxes, keys, s)
+    close(&table, keys, s)
 }

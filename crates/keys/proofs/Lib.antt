@@ -3,3 +3,4 @@ pub mod Odd
 pub mod Folds
 pub mod Laws
 pub mod Lent
+pub mod Making

@@ -64,18 +64,18 @@ pub fn clock_value(opening: u64, made: u64) -> u64
     std::num::wrapping_add_u64(opening, made)
 }
 
-// The maker's work, by value. The round keys and the boxes are taken once for its three blocks.
+// The maker's work, by value. The round keys and the table are taken once for its three blocks.
 pub fn make(maker: KeyMaker, clock: u64) -> Made
     ensures { λ r. ⌜ r ≡ madeOf maker clock ⌝ }
 {
     let key = maker.key;
     let seed = maker.seed;
     let ks = des::schedule(key);
-    let s = des::box_table();
-    let i = des::rounds_by(&s, ks, clock);
-    let r = des::rounds_by(&s, ks, i ^ seed);
+    let t = des::joined_table();
+    let i = des::rounds_by(&t, ks, clock);
+    let r = des::rounds_by(&t, ks, i ^ seed);
     let made = with_parity(r);
-    let v = des::rounds_by(&s, ks, seed ^ r);
+    let v = des::rounds_by(&t, ks, seed ^ r);
     let moved = KeyMaker { key, seed: v };
     Made { made, maker: moved }
 }

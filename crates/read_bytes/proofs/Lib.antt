@@ -3,3 +3,4 @@ pub mod Plainly
 pub mod Told
 pub mod Steps
 pub mod Scans
+pub mod Passing

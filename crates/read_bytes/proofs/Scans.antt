@@ -20,7 +20,7 @@ use Rattle.read_bytes.specs.Runs.{Runs}
 use Rattle.read_bytes.proofs.Plainly.{between}
 use Rattle.read_bytes.proofs.Steps.{Makes}
 
-further-twice : (m n : ℕ) (r : Scan) → further m (further n r) ≡ further (n + m) r
+pub further-twice : (m n : ℕ) (r : Scan) → further m (further n r) ≡ further (n + m) r
 further-twice m n r =
     let k : r .taken + n + m ≡ r .taken + (n + m) = omega arith in ap (λ (t : ℕ). record { turn = r .turn; taken = t }) k
 

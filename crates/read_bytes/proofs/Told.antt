@@ -1,4 +1,4 @@
--- Characters enciphered by the true boxes and the one-time key's round keys are what the session hears; none at all leave it as it was.
+-- Characters enciphered by the true table and the one-time key's round keys are what the session hears; none at all leave it as it was.
 -- Assumes nothing.
 use Prim.Native.Nat.{ℕ}
 use mathlib.Core.Path.{_≡_, sym, ap, ap₂, _∙_}
@@ -6,8 +6,9 @@ use mathlib.Core.Bool.{Bool, true, false}
 use mathlib.Core.List.{List, [], _∷_, _++_}
 use borrow.Author.Tests.{eq-eqb, ne-eqb}
 use Rattle.ground.proofs.Choices.{picks, skips}
-use Rattle.des.specs.Des.{scheduleOf, cipherBy}
-use Rattle.des.specs.Tables.{boxes}
+use Rattle.des.specs.Des.{scheduleOf}
+use Rattle.des.specs.Joined.{joined, joinedBy}
+use Rattle.des.proofs.Joined.{joined-cipher}
 use Rattle.checks.specs.Checks.{keyOr0}
 use Rattle.whole_file.specs.Records.{cr}
 use Rattle.session.specs.Lines.{waited}
@@ -16,10 +17,16 @@ use Rattle.session.specs.declared.Session.{Session}
 use Rattle.law_cutting.proofs.Plain.{heard-none}
 use Rattle.read_bytes.specs.Runs.{toldBy}
 
-pub hears : (s : Session) (sbox keys l : List ℕ) → (sbox ≡ boxes) × (keys ≡ scheduleOf (keyOr0 (s .batch .once)))
-    → heardBy (cipherBy sbox keys) s l ≡ heard s l
-unfolding heard cipherOf
-hears s sbox keys l e = ap₂ (λ (b k : List ℕ). heardBy (cipherBy b k) s l) (e .0) (e .1)
+-- the cipher by the true table and the one-time key's round keys
+pub serves : (s : Session) (boxes keys : List ℕ) → boxes ≡ joined → keys ≡ scheduleOf (keyOr0 (s .batch .once)) → joinedBy boxes keys ≡ cipherOf s
+unfolding cipherOf
+serves s boxes keys et ek =
+    ap₂ {C = ℕ → ℕ} (λ (t k : List ℕ). joinedBy t k) et ek ∙ joined-cipher (scheduleOf (keyOr0 (s .batch .once)))
+
+pub hears : (s : Session) (boxes keys l : List ℕ) → (boxes ≡ joined) × (keys ≡ scheduleOf (keyOr0 (s .batch .once)))
+    → heardBy (joinedBy boxes keys) s l ≡ heard s l
+unfolding heard
+hears s boxes keys l e = ap (λ (f : ℕ → ℕ). heardBy f s l) (serves s boxes keys (e .0) (e .1))
 
 module _ (s : Session) (waiting : Bool) where
   pub waits : waiting ≡ true → heard s (cr ∷ []) ≡ heard s (waited waiting)

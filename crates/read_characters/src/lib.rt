@@ -4,7 +4,7 @@ ghost use Prim.Native.Nat.{_+_, _≤_, min};
 ghost use lib.Dec.{eqb, ltb};
 ghost use lib.ListN.{length};
 ghost use Rattle.ground.specs.Choice.{both, either};
-ghost use Rattle.des.specs.Des.{cipherBy};
+ghost use Rattle.des.specs.Joined.{joinedBy};
 ghost use Rattle.whole_file.specs.Messages.{mostLength};
 ghost use Rattle.session.specs.Lines.{lineAfter};
 ghost use Rattle.session.specs.Events.{gatheredAll, batchWith, heardBy};
@@ -77,13 +77,13 @@ pub fn gather(g: session::Gathered, bytes: &[u8]) -> session::Gathered
 
 // In data the characters go into the digest too.
 fn batch_with(
-    boxes: &[u8; 512],
+    table: &[u32; 512],
     keys: [u64; 16],
     p: session::Place,
     b: session::Batch,
     bytes: &[u8],
 ) -> session::Batch
-    ensures { λ r. ⌜ r ≡ batchWith (cipherBy (now (boxes .entry)) keys) p b (now (bytes .entry)) ⌝ }
+    ensures { λ r. ⌜ r ≡ batchWith (joinedBy (now (table .entry)) keys) p b (now (bytes .entry)) ⌝ }
 {
     if !session::is_data(p) {
         return b;
@@ -91,25 +91,25 @@ fn batch_with(
     let suo = b.suo;
     let once = b.once;
     let before = b.running;
-    let running = digest::run(boxes, keys, before, bytes);
+    let running = digest::run(table, keys, before, bytes);
     session::Batch { suo, once, running }
 }
 
 // The session with more characters of the record on its way; `keys` are the round keys of the one-time key.
 pub fn hear(
-    boxes: &[u8; 512],
+    table: &[u32; 512],
     keys: [u64; 16],
     s: session::Session,
     bytes: &[u8],
 ) -> session::Session
-    ensures { λ r. ⌜ r ≡ heardBy (cipherBy (now (boxes .entry)) keys) s (now (bytes .entry)) ⌝ }
+    ensures { λ r. ⌜ r ≡ heardBy (joinedBy (now (table .entry)) keys) s (now (bytes .entry)) ⌝ }
 {
     let place = s.place;
     let before = s.gathered;
     let open_batch = s.batch;
     let mut after = s;
     after.gathered = gather(before, bytes);
-    after.batch = batch_with(boxes, keys, place, open_batch, bytes);
+    after.batch = batch_with(table, keys, place, open_batch, bytes);
     after
 }
 

@@ -4,8 +4,9 @@ use mathlib.Core.Path.{_≡_, refl, sym, _∙_}
 use mathlib.Core.Bool.{Bool, true, false}
 use mathlib.Core.List.{List}
 use Prim.Native.Nat.{ℕ}
-use Rattle.des.specs.Tables.{boxes}
-use Rattle.des.specs.Des.{cipherBy, scheduleOf}
+use Rattle.des.specs.Des.{scheduleOf}
+use Rattle.des.specs.Joined.{joined, joinedBy}
+use Rattle.des.proofs.Joined.{joined-cipher}
 use Rattle.digest.specs.Running.{begun, alike, ended, answered}
 use Rattle.digest.specs.declared.Answer.{Answer}
 use Rattle.digest.specs.declared.Method.{Method}
@@ -92,9 +93,9 @@ module _ (s : Session) {g : Gathered} {at z : Session} {run : Running} (eg : g �
   unfolding dataTaken
   data-made em er ez = rw (ez, ea, eg, er, em)
 
-pub frame-made : (s : Session) (m : Collected) {b k : List ℕ} {key : ℕ} {d : Answer} → b ≡ boxes → key ≡ keyOr0 (s .batch .once) → k
+pub frame-made : (s : Session) (m : Collected) {t k : List ℕ} {key : ℕ} {d : Answer} → t ≡ joined → key ≡ keyOr0 (s .batch .once) → k
     ≡ scheduleOf key
-    → d ≡ answered (cipherBy b k) (s .batch .running .start)
+    → d ≡ answered (joinedBy t k) (s .batch .running .start)
     → record { suo = s .batch .suo; var = m; once = s .batch .once; digest = d } ≡ frameBy s m
 unfolding frameBy cipherOf
-frame-made s m eb en ek ed = rw (ed, eb, ek, en)
+frame-made s m et en ek ed = rw (ed, et, ek, en, joined-cipher (scheduleOf (keyOr0 (s .batch .once))))

@@ -352,9 +352,9 @@ fn frame_by(s: session::Session, var: message::Collected) -> checks::Frame
     let once = batch.once;
     let running = batch.running;
     let state = running.start;
-    let boxes = des::box_table();
+    let table = des::joined_table();
     let keys = des::schedule(checks::key_or_0(once));
-    let digest = digest::finish(&boxes, keys, state);
+    let digest = digest::finish(&table, keys, state);
     checks::Frame {
         suo,
         var,

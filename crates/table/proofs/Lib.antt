@@ -7,6 +7,7 @@ pub mod Encode
 pub mod Decode
 pub mod Stores
 pub mod Turns
+pub mod Names
 pub mod Exact
 pub mod Filled
 pub mod Loaded

@@ -3,25 +3,25 @@
 use mathlib.Core.Path.{_≡_, refl, sym, ap, _∙_}
 use mathlib.Core.List.{List, [], _∷_}
 use mathlib.Core.Bool.{Bool, true}
-use Prim.Native.Nat.{ℕ, zero, suc, _+_, _*_, _<_}
+use Prim.Native.Nat.{ℕ, zero, suc, _+_, _*_, _<_, _≤_}
 use native.Mathlib.Nat.{add-zero, not-suc-le-zero, le-of-suc-le-suc}
 use native.Mathlib.Omega.{arith}
 use lib.ListN.{length, getD, length-map}
 use Rattle.ground.specs.Choice.{both, pick}
 use Rattle.ground.specs.Lists.{all, part, same}
 use Rattle.ground.proofs.Choices.{decides}
-use Rattle.ground.proofs.Bools.{both-turn, both-true}
+use Rattle.ground.proofs.Bools.{both-turn, both-true, both-assoc}
 use Rattle.ground.proofs.Lists.{same-turned}
 use Rattle.calendar.specs.Dates.{realDate, earlier}
 use Rattle.splices.specs.Bytes.{num}
 use Rattle.codec.specs.Layout.{number, many, width, repeated, dec}
 use Rattle.codec.proofs.Laws.{repeated-length}
 use Rattle.customer_bytes.specs.Layout.{recordWidth, customerShape, customerFrom, customerAt, exactAt}
+use Rattle.customer_bytes.proofs.Laws.{customer-at}
 use Rattle.customer.specs.Customer.{soundCustomer}
 use Rattle.customer.specs.declared.Customer.{Customer}
 use Rattle.table.specs.Table.{rising, placeFrom, isUnknown}
 use Rattle.table.specs.Tests.{datesAt, customersAt, okDates, okRecords}
-use Rattle.table.specs.declared.Found.{Found}
 use Rattle.table.specs.declared.Found.the-variants.{At, Unknown}
 
 -- ---- n from p on, where n is m + 1
@@ -118,15 +118,17 @@ pub records-step : (c : Customer) (p n m : ℕ) (b : List ℕ) → n ≡ suc m �
 unfolding okRecords
 records-step c p n m b e f = rw (e, f)
 
--- the record is exact and sound: the search for its name comes next
-pub records-turn : (c : Customer) (f : Found) (p n m : ℕ) (b : List ℕ) → n ≡ suc m → exactAt p b ≡ true → c ≡ customerAt p b
-    → soundCustomer c ≡ true → f ≡ placeFrom 0 (c .who) (customersAt (p + recordWidth) m b)
-    → okRecords n p b ≡ both (isUnknown f) (okRecords m (p + recordWidth) b)
-records-turn c f p n m b e x a s q =
-    records-step c p n m b e a
-    ∙ decides _ _ x
-    ∙ decides _ _ s
-    ∙ ap (λ (g : Found). both (isUnknown g) (okRecords m (p + recordWidth) b)) (sym q)
+-- the first record by itself, then its name among those after it
+pub records-turn : (p n m : ℕ) (b : List ℕ) → n ≡ suc m → p + recordWidth ≤ length b
+    → okRecords n p b
+    ≡ both (both (exactAt p b) (soundCustomer (customerAt p b)))
+    (both (isUnknown (placeFrom 0 (part p 25 b) (customersAt (p + recordWidth) m b))) (okRecords m (p + recordWidth) b))
+records-turn p n m b e h =
+    records-step (customerAt p b) p n m b e refl
+    ∙ sym (both-assoc _ _ _)
+    ∙ ap (λ (x : List ℕ). both (both (exactAt p b) (soundCustomer (customerAt p b)))
+    (both (isUnknown (placeFrom 0 x (customersAt (p + recordWidth) m b))) (okRecords m (p + recordWidth) b)))
+    (ap (λ (c : Customer). c .who) (customer-at p b h) ∙ who-at p b)
 
 pub records-end : (p n : ℕ) (b : List ℕ) → n ≡ 0 → true ≡ okRecords n p b
 unfolding okRecords

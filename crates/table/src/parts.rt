@@ -2,9 +2,10 @@
 use crate::Found;
 ghost use mathlib.Core.Path.{_≡_};
 ghost use Prim.Native.Nat.{_+_, _*_, _≤_, min};
+ghost use lib.Dec.{eqb};
 ghost use lib.ListN.{length};
 ghost use Rattle.ground.specs.Lists.{part, same};
-ghost use Rattle.splices.specs.Bytes.{bytesOfAll, splice};
+ghost use Rattle.splices.specs.Bytes.{num, bytesOfAll, splice};
 ghost use Rattle.table.specs.Table.{placeFrom, isUnknown};
 ghost use Rattle.table.specs.Written.{settingsStart, customersStart};
 ghost use Rattle.table.specs.Decode.{holidayCount, customerCount};
@@ -102,11 +103,44 @@ pub(crate) fn find_from(t: &[u8], at: usize, n: usize, who: [u8; 25]) -> Found
     Found::Unknown
 }
 
-pub(crate) fn is_unknown(f: Found) -> bool
-    ensures { λ r. ⌜ r ≡ isUnknown f ⌝ }
+// Whether the same eight bytes stand at a and at b.
+fn are_same8(t: &[u8], a: usize, b: usize) -> bool
+    requires { ⌜ (a + 8 ≤ length (now t)) × (b + 8 ≤ length (now t)) ⌝ }
+    ensures { λ r. ⌜ r ≡ eqb (num (part a 8 (now (t .entry)))) (num (part b 8 (now (t .entry)))) ⌝ }
 {
-    match f {
-        Found::At(_) => false,
-        Found::Unknown => true,
+    codec::read8(t, a) == codec::read8(t, b)
+}
+
+// Whether the same identity and qualifier stand at a and at b. The qualifiers go first: where customers are alike, they differ there.
+fn are_same(t: &[u8], a: usize, b: usize) -> bool
+    requires { ⌜ (a + 25 ≤ length (now t)) × (b + 25 ≤ length (now t)) ⌝ }
+    ensures { λ r. ⌜ r ≡ same (part a 25 (now (t .entry))) (part b 25 (now (t .entry))) ⌝ }
+{
+    if !are_same8(t, a + 17, b + 17) {
+        return false;
     }
+    if !are_same8(t, a, b) {
+        return false;
+    }
+    if !are_same8(t, a + 8, b + 8) {
+        return false;
+    }
+    codec::read1(t, a + 16) == codec::read1(t, b + 16)
+}
+
+// Whether the customer at `at` has a name that none of the n after it has.
+pub(crate) fn is_only(t: &[u8], at: usize, n: usize) -> bool
+    requires { ⌜ at + 1109 + 1109 * n ≤ length (now t) ⌝ }
+    ensures { λ r. ⌜ r ≡ isUnknown (placeFrom 0 (part at 25 (now (t .entry))) (customersAt (at + 1109) n (now (t .entry)))) ⌝ }
+{
+    let mut p = at + 1109;
+    let mut i = 0;
+    while i < n {
+        if are_same(t, at, p) {
+            return false;
+        }
+        p += 1109;
+        i += 1;
+    }
+    true
 }

@@ -1,6 +1,5 @@
 // The tests that make up the test of a whole table.
-use crate::parts::find_from;
-use crate::parts::is_unknown;
+use crate::parts::is_only;
 ghost use mathlib.Core.Path.{_≡_};
 ghost use Prim.Native.Nat.{_+_, _*_, _≤_};
 ghost use lib.ListN.{length};
@@ -68,19 +67,14 @@ pub(crate) fn are_customers(t: &[u8], at: usize, n: usize) -> bool
     let mut p = at;
     let mut left = n;
     while left > 0 {
-        if !customer_bytes::is_exact_at(t, p) {
+        if !customer_bytes::is_sound_at(t, p) {
             return false;
         }
-        let c = customer_bytes::load_at(t, p);
-        if !customer::is_sound(c) {
+        left -= 1;
+        if !is_only(t, p, left) {
             return false;
         }
         p += 1109;
-        left -= 1;
-        let who = c.who;
-        if !is_unknown(find_from(t, p, left, who)) {
-            return false;
-        }
     }
     true
 }

@@ -44,44 +44,44 @@ fn put_answer(label: &[u8], a: Answer) {
 
 // Bytes as they are, without the internal code.
 fn raw(label: &[u8], key: u64, bytes: &[u8]) {
-    let boxes = des::box_table();
+    let table = des::joined_table();
     let keys = des::schedule(key);
     let mut s = digest::start();
     let mut i = 0;
     while i < bytes.len() {
-        s = digest::feed(&boxes, keys, s, bytes[i]);
+        s = digest::feed(&table, keys, s, bytes[i]);
         i += 1;
     }
-    put_answer(label, digest::finish(&boxes, keys, s));
+    put_answer(label, digest::finish(&table, keys, s));
 }
 
 // A batch of two records.
 fn two(label: &[u8], key: u64, m: Method, first: &[u8], second: &[u8]) {
-    let boxes = des::box_table();
+    let table = des::joined_table();
     let keys = des::schedule(key);
-    let a = digest::run(&boxes, keys, digest::at_record(digest::start()), first);
-    let b = digest::run(&boxes, keys, digest::end_record(m, a), second);
+    let a = digest::run(&table, keys, digest::at_record(digest::start()), first);
+    let b = digest::run(&table, keys, digest::end_record(m, a), second);
     let r = digest::end_record(m, b);
     let s = r.start;
-    put_answer(label, digest::finish(&boxes, keys, s));
+    put_answer(label, digest::finish(&table, keys, s));
 }
 
 // A batch of one record that comes in pieces.
 fn cut(label: &[u8], key: u64, m: Method, bytes: &[u8], size: usize)
     requires { ⌜ 0 < size ⌝ }
 {
-    let boxes = des::box_table();
+    let table = des::joined_table();
     let keys = des::schedule(key);
     let mut r = digest::at_record(digest::start());
     let mut at = 0;
     while size < bytes.len() - at {
         let next = at + size;
-        r = digest::run(&boxes, keys, r, &bytes[at..next]);
+        r = digest::run(&table, keys, r, &bytes[at..next]);
         at = next;
     }
-    r = digest::end_record(m, digest::run(&boxes, keys, r, &bytes[at..]));
+    r = digest::end_record(m, digest::run(&table, keys, r, &bytes[at..]));
     let s = r.start;
-    put_answer(label, digest::finish(&boxes, keys, s));
+    put_answer(label, digest::finish(&table, keys, s));
 }
 
 fn pieces(key: u64, bytes: &[u8]) {

@@ -1,5 +1,6 @@
--- The calls give the table, the schedule and the states that the definition names.
+-- The calls give the schedule and the states that the definition names, and the table by which the cipher is the definition's.
 use borrow.Author.Needs.{needs}
+use Rattle.des.proofs.Joined.{joined-cipher}
 use Rattle.build.proofs.digest_with.Statement.{statement}
 use Rattle.build.proofs.digest_with.Tie as tie
 
@@ -13,7 +14,8 @@ returns c =
       at-run .run .ensures,
       at-record .at-record .ensures,
       at-keys .schedule .ensures,
-      at-keys .before .box-table .ensures,
+      at-keys .before .joined-table .ensures,
+      joined-cipher _,
     )
 
 pub digest-with-spec : {M : Type 1} → statement M

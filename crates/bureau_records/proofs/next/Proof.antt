@@ -1,12 +1,14 @@
 -- What is left of the part, from where the records stand there, gives what the whole part gives.
 use Prim.Native.Nat.{ℕ, _-_, _≤_}
-use mathlib.Core.Path.{_≡_, refl, sym, ap₂, _∙_}
+use mathlib.Core.Path.{_≡_, refl, sym, ap, ap₂, _∙_}
 use mathlib.Core.List.{List}
 use native.Mathlib.Omega.{arith}
 use borrow.Author.Needs.{needs}
 use lib.ListN.{length, drop}
 use Rattle.des.specs.Des.{cipherBy}
 use Rattle.des.specs.Tables.{boxes}
+use Rattle.des.specs.Joined.{joinedBy}
+use Rattle.des.proofs.Joined.{joined-cipher}
 use Rattle.bureau_records.specs.Pieces.{Heard, heardBytes}
 use Rattle.bureau_records.specs.Sofar.{heardOf}
 use Rattle.bureau_records.proofs.Cuts.{in-order, rest-without, rest-heard, line-without, line-heard, end-heard}
@@ -14,13 +16,13 @@ use Rattle.bureau_records.proofs.next.Statement.{statement}
 use Rattle.bureau_records.proofs.next.Tie as tie
 
 abbrev Inv-loop : tie.InvT-loop
-Inv-loop w part room₀ sbox keys n now₀ at₀ room now at =
+Inv-loop w part room₀ table keys n now₀ at₀ room now at =
     (length room ≡ length room₀)
-    × (heardBytes (cipherBy sbox keys) (w .method) (heardOf now) (drop at part)
-    ≡ heardBytes (cipherBy sbox keys) (w .method) (heardOf now₀) part)
+    × (heardBytes (joinedBy table keys) (w .method) (heardOf now) (drop at part)
+    ≡ heardBytes (joinedBy table keys) (w .method) (heardOf now₀) part)
 
 abbrev μ-loop : tie.MeasureT-loop
-μ-loop w part room₀ sbox keys n now₀ at₀ room now at = n - at
+μ-loop w part room₀ table keys n now₀ at₀ room now at = n - at
 
 -- ---- the places that are named, each from the next
 
@@ -37,14 +39,16 @@ at-line c = c .before .before .before .before
 abbrev at-lined : tie.Else2 Inv-loop μ-loop → tie.After-lined Inv-loop μ-loop
 at-lined c = c .before .before .before .before
 
--- the table that is lent is the true one, and the room that is emptied leaves what was heard
+-- by the true table, which is lent, the cipher is the standard's, and the room that is emptied leaves what was heard
 begun : (c : tie.At-loop Inv-loop μ-loop) → let w = at-start c .args .w in let part = at-start c .args .part .now in
-    heardBytes (cipherBy (c .before .before .before .box-table .result) (w .keys)) (w .method) (heardOf (c .before .emptied .result)) part
+    heardBytes (joinedBy (c .before .before .before .joined-table .result) (w .keys)) (w .method) (heardOf (c .before .emptied .result)) part
     ≡ heardBytes (cipherBy boxes (w .keys)) (w .method) (heardOf (at-start c .args .l)) part
 begun c =
     let w = at-start c .args .w in
-    ap₂ (λ (b : List ℕ) (h : Heard). heardBytes (cipherBy b (w .keys)) (w .method) h (at-start c .args .part .now))
-    (c .before .before .before .box-table .ensures) (c .before .emptied .ensures .0)
+    let part = at-start c .args .part .now in
+    ap₂ (λ (t : List ℕ) (h : Heard). heardBytes (joinedBy t (w .keys)) (w .method) h part)
+    (c .before .before .before .joined-table .ensures) (c .before .emptied .ensures .0)
+    ∙ ap (λ (e : ℕ → ℕ). heardBytes e (w .method) (heardOf (at-start c .args .l)) part) (joined-cipher (w .keys))
 
 found-in-order : (c : tie.After-part-end Inv-loop μ-loop) → at-loop c .loop .at ≤ c .part-end .result
 found-in-order c = in-order (at-start (at-loop c) .args .part .now) _ _ (c .part-end .ensures) (c .before .loop-test .taken)

@@ -1,14 +1,13 @@
--- The table names bits of a 64-bit number, 56 of them.
-use mathlib.Core.Path.{refl}
-use Rattle.ground.specs.Choice.{both}
-use Rattle.des.specs.Des.{named}
+-- IP and eight groups moved are PC-1, by one test at the powers of two.
+use mathlib.Core.Path.{ap, _∙_}
+use Rattle.des.specs.Quick.{choice1Net}
+use Rattle.des.proofs.Keys.{choice1-net}
 use borrow.Author.Needs.{needs}
 use Rattle.des.proofs.choice1_of.Statement.{statement}
 use Rattle.des.proofs.choice1_of.Tie as tie
 
-select-requires : tie.Need-select-requires
-unfolding named both
-select-requires c κs = (refl, search needs)
+returns : tie.Need-returns
+returns c = ap choice1Net (c .first .ensures) ∙ choice1-net _ (c .before .fits .x .fits)
 
 pub choice1-of-spec : {M : Type 1} → statement M
-choice1-of-spec = tie.close (tie.spec (λ c. search needs) select-requires (λ c. search needs))
+choice1-of-spec = tie.close (tie.spec (λ c κs. search needs) returns)

@@ -1,62 +1,52 @@
--- The keys made so far and those that the shifts left will make are the whole schedule.
-use native.Mathlib.Omega.{arith}
-use Rattle.des.proofs.Laws.{permute-lt, shift-range, rotated-lt, keys-step, keys-done}
+-- The keys made so far and those that PC-2 will make of the halves left are the whole schedule.
+use Rattle.des.proofs.Laws.{permute-lt}
+use Rattle.des.proofs.Keys.{turned-length, schedule-turned, map-step, map-done}
 use borrow.Author.Needs.{needs}
-use mathlib.Core.Path.{_≡_, refl, sym, _∙_}
-use mathlib.Core.List.{_++_}
-use Prim.Native.Nat.{_≤_, _<_, _^_, _-_}
+use mathlib.Core.Path.{_≡_, refl, ap, sym, _∙_, subst⁻¹}
+use mathlib.Core.List.{_++_, map}
+use Prim.Native.Nat.{ℕ, _≤_, _<_, _^_, _-_}
 use lib.ListN.{length, take, drop, length-set}
-use Rattle.des.specs.Tables.{shifts, choice1}
-use Rattle.des.specs.Des.{keysFrom, scheduleOf}
+use Rattle.des.specs.Tables.{choice1, choice2, shifts}
+use Rattle.des.specs.Des.{permute}
+use Rattle.des.specs.Quick.{turnedFrom}
 use Rattle.des.proofs.schedule.Statement.{statement}
 use Rattle.des.proofs.schedule.Tie as tie
 
 abbrev Inv-loop : tie.InvT-loop
-Inv-loop key cd c₀ d₀ ks₀ i₀ c d ks i =
-    (i ≤ 16) × (c < 2 ^ 28) × (d < 2 ^ 28) × (length ks ≡ 16) × (take i ks ++ keysFrom (drop i shifts) c d ≡ scheduleOf key)
+Inv-loop key halves ks₀ i₀ ks i =
+    (i ≤ 16) × (length ks ≡ 16) × (take i ks ++ map (permute choice2 56) (drop i halves) ≡ map (permute choice2 56) halves)
 
 abbrev μ-loop : tie.MeasureT-loop
-μ-loop key cd c₀ d₀ ks₀ i₀ c d ks i = 16 - i
+μ-loop key halves ks₀ i₀ ks i = 16 - i
 
--- both halves after their rotation have 28 bits
-halves : (c : tie.After-rotate2 Inv-loop μ-loop) → (c .before .rotate .result < 2 ^ 28) × (c .rotate2 .result < 2 ^ 28)
-halves c =
-    let s = shift-range (c .before .before .before .loop .i) (c .before .before .loop-test .taken) in (
-      rw (c .before .rotate .ensures) (rotated-lt _ _ (s .0) (s .1) (c .before .before .before .loop .inv .1)),
-      rw (c .rotate2 .ensures) (rotated-lt _ _ (s .0) (s .1) (c .before .before .before .loop .inv .2)),
-    )
+turns-requires : tie.Need-turns-requires Inv-loop μ-loop
+turns-requires c κs = subst⁻¹ (λ (x : ℕ). x < 2 ^ 56) (c .choice1-of .ensures) (permute-lt choice1 64 _)
 
 loop-holds : tie.Need-loop-holds Inv-loop μ-loop
-unfolding scheduleOf
-loop-holds c =
-    let b : c .choice1-of .result < 2 ^ 56 = rw (c .choice1-of .ensures) (permute-lt choice1 64 _) in
-    (search needs, omega arith, omega arith, refl, rw (c .choice1-of .ensures))
+loop-holds c = (search needs, refl, refl)
 
-rotate-requires : tie.Need-rotate-requires Inv-loop μ-loop
-rotate-requires c κs = omega (arith, shift-range (c .before .loop .i) (c .loop-test .taken))
-
-rotate-requires-2 : tie.Need-rotate-requires-2 Inv-loop μ-loop
-rotate-requires-2 c κs = omega (arith, shift-range (c .before .before .loop .i) (c .before .loop-test .taken))
-
-mul-choice2-of : tie.Need-mul-choice2-of Inv-loop μ-loop
-mul-choice2-of c = omega (arith, halves c)
-
-add-choice2-of : tie.Need-add-choice2-of Inv-loop μ-loop
-add-choice2-of c = omega (arith, halves c)
+-- there are sixteen
+sixteen : (c : tie.After-turns Inv-loop μ-loop) → length (c .turns .result) ≡ 16
+sixteen c = ap length (c .turns .ensures) ∙ turned-length shifts _
 
 loop-again : tie.Need-loop-again Inv-loop μ-loop
 loop-again c = (
   search needs,
-  halves (c .before) .0,
-  halves (c .before) .1,
-  simp length-set (c .before .before .before .before .loop .inv .3),
-  rw (c .choice2-of .ensures, c .before .before .rotate .ensures, c .before .rotate2 .ensures)
-      (keys-step _ _ _ _ (c .before .before .before .loop-test .taken) (c .before .before .before .before .loop .inv .3)
-      ∙ c .before .before .before .before .loop .inv .4),
+  simp length-set (c .before .before .loop .inv .1),
+  rw (c .choice2-of .ensures)
+      (map-step (permute choice2 56) _ _ _ (c .before .before .loop .inv .1) (c .before .loop-test .taken)
+      (sixteen (c .before .before .before))
+      ∙ c .before .before .loop .inv .2),
 )
 
 returns : tie.Need-returns Inv-loop μ-loop
-returns c = sym (keys-done _ _ _ _ (c .loop-test .left) (c .before .loop .inv .3)) ∙ c .before .loop .inv .4
+returns c =
+    sym (map-done (permute choice2 56) (c .before .before .turns .result) _ _ (c .before .loop .inv .1) (c .loop-test .left)
+    (sixteen (c .before .before)))
+    ∙ c .before .loop .inv .2
+    ∙ ap (map (permute choice2 56))
+    (c .before .before .turns .ensures ∙ ap (turnedFrom shifts) (c .before .before .before .choice1-of .ensures))
+    ∙ schedule-turned _
 
 pub schedule-spec : {M : Type 1} → statement M
 schedule-spec =
@@ -65,13 +55,10 @@ schedule-spec =
     Inv-loop
     μ-loop
     (λ c κs. search needs)
+    turns-requires
     loop-holds
     (λ c. search needs)
     (λ c. search needs)
-    rotate-requires
-    rotate-requires-2
-    mul-choice2-of
-    add-choice2-of
     (λ c κs. search needs)
     (λ c. search needs)
     (λ c. search needs)

@@ -10,7 +10,7 @@ returns c =
     let d = c .before .before .before in
     c .close .ensures
     ∙ checksum-made _ _
-    (d .before .before .before .before .before .before .box-table .ensures)
+    (d .before .before .before .before .before .before .joined-table .ensures)
     (d .before .before .before .before .before .schedule .ensures)
     (d .before .before .before .start .ensures)
     (d .before .before .at-record .ensures)

@@ -1,44 +1,40 @@
--- The record so far with the characters that are left is the record with all of them.
-use mathlib.Core.Path.{_≡_, refl, sym, _∙_}
-use Prim.Native.Nat.{_≤_, _-_}
+-- What is fed before the blanks at the end is the solid state, and the blanks bring it to the last one.
+use mathlib.Core.Path.{sym}
 use borrow.Author.Needs.{needs}
-use lib.ListN.{length, drop}
-use Rattle.des.specs.Des.{cipherBy}
-use Rattle.digest.specs.Running.{tookBytes}
-use Rattle.digest.proofs.Folds.{took-drop, took-done}
+use lib.Seq.{length-take-le}
+use Rattle.digest.proofs.Batches.{run-blank, run-solid}
 use Rattle.digest.proofs.run.Statement.{statement}
 use Rattle.digest.proofs.run.Tie as tie
 
-abbrev Inv-loop : tie.InvT-loop
-Inv-loop boxes keys bytes x₀ i₀ x i =
-    (i ≤ length bytes) × (tookBytes (cipherBy boxes keys) x (drop i bytes) ≡ tookBytes (cipherBy boxes keys) x₀ bytes)
+returns : tie.Need-returns
+returns c =
+    let at-if1 = c .before .before in
+    run-blank _ _ _ _ (at-if1 .before .solid-length .ensures .1) (at-if1 .if1 .taken) (c .fed .ensures)
 
-abbrev μ-loop : tie.MeasureT-loop
-μ-loop boxes keys bytes x₀ i₀ x i = length bytes - i
+slice-aggregate-fed : tie.Need-slice-aggregate-fed
+slice-aggregate-fed c =
+    sym (length-take-le _ (c .before .before .before .before .before .before .args .bytes .now) (c .before .before .solid-length .ensures .0))
 
-loop-holds : tie.Need-loop-holds Inv-loop μ-loop
-loop-holds c = (search needs, refl)
-
-loop-again : tie.Need-loop-again Inv-loop μ-loop
-loop-again c = (
-  search needs,
-  rw (c .took .ensures)
-      (sym (took-drop _ _ _ _ (c .before .before .loop-test .taken)) ∙ c .before .before .before .loop .inv .1),
-)
-
-returns : tie.Need-returns Inv-loop μ-loop
-returns c = sym (took-done _ _ _ _ (c .loop-test .left)) ∙ c .before .loop .inv .1
+returns-2 : tie.Need-returns-2
+returns-2 c =
+    let at-solid = c .before .before in
+    let at-if1 = at-solid .before .before in
+    let at-cut = at-if1 .before in
+    let at-args = at-cut .before .before .before .before in
+    run-solid _ (at-args .args .r) (at-args .args .bytes .now) _ (at-cut .solid-length .ensures .1) (at-if1 .if1 .left)
+    (at-cut .solid-length .ensures .0) (at-solid .fed2 .ensures) (c .fed3 .ensures)
 
 pub run-spec : {M : Type 1} → statement M
 run-spec =
     tie.close
     (tie.spec
-    Inv-loop
-    μ-loop
-    loop-holds
-    (λ c. search needs)
+    (λ c κs. search needs)
+    (λ c κs. search needs)
+    returns
+    slice-aggregate-fed
     (λ c κs. search needs)
     (λ c. search needs)
     (λ c. search needs)
-    loop-again
-    returns)
+    (λ c. search needs)
+    (λ c κs. search needs)
+    returns-2)

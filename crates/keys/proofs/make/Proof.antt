@@ -1,12 +1,17 @@
--- What the six calls ensure, put together.
-use Rattle.keys.specs.Maker.{madeOf, random}
+-- What the calls ensure, put together; the cipher by the lent table is the standard's.
+use Rattle.keys.proofs.Making.{made-by}
 use borrow.Author.Needs.{needs}
 use Rattle.keys.proofs.make.Statement.{statement}
 use Rattle.keys.proofs.make.Tie as tie
 
 returns : tie.Need-returns
-unfolding madeOf random
-returns c = cc
+returns c =
+    let at-parity = c .before .before in
+    let at-second = at-parity .before in
+    let at-first = at-second .before .before in
+    let at-table = at-first .before .before in
+    made-by _ _ (at-table .joined-table .ensures) (at-table .before .schedule .ensures) (at-first .rounds-by .ensures)
+    (at-second .rounds-by2 .ensures) (at-parity .with-parity .ensures) (c .rounds-by3 .ensures)
 
 pub make-spec : {M : Type 1} → statement M
 make-spec =

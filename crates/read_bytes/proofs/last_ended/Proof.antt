@@ -18,7 +18,7 @@ returns c = none-begun _ _ (refused refl (c .before .before .before .if1 .taken)
 
 waiting-heard-requires : tie.Need-waiting-heard-requires
 waiting-heard-requires c κs = (
-  c .before .before .before .box-table .ensures,
+  c .before .before .before .joined-table .ensures,
   c .before .schedule .ensures
       ∙ ap scheduleOf (c .before .before .batch-key .ensures),
 )

@@ -7,13 +7,13 @@ use Rattle.des.specs.Des.{scheduleOf}
 use Rattle.checks.specs.Checks.{keyOr0}
 use Rattle.session.specs.Events.{silent}
 use Rattle.session.specs.Machine.{Scan, scanned}
-use Rattle.read_bytes.proofs.Scans.{left-at, run-key, run-length, runs-through, goes-on, replied, all-taken, from-start}
+use Rattle.read_bytes.proofs.Scans.{left-at, goes-on, replied, all-taken, from-start}
 use borrow.Author.Needs.{needs}
 use Rattle.read_bytes.proofs.scan.Statement.{statement}
 use Rattle.read_bytes.proofs.scan.Tie as tie
 
 abbrev Inv-loop : tie.InvT-loop
-Inv-loop t₀ input sbox at₀ key₀ keys₀ i₀ t at key keys i =
+Inv-loop t₀ input boxes at₀ key₀ keys₀ i₀ t at key keys i =
     (i ≤ length input)
     × (length t ≡ length t₀)
     × (key ≡ keyOr0 (at .batch .once))
@@ -21,15 +21,15 @@ Inv-loop t₀ input sbox at₀ key₀ keys₀ i₀ t at key keys i =
     × (left-at input i at t ≡ scanned at₀ t₀ input)
 
 abbrev μ-loop : tie.MeasureT-loop
-μ-loop t₀ input sbox at₀ key₀ keys₀ i₀ t at key keys i = length input - i
+μ-loop t₀ input boxes at₀ key₀ keys₀ i₀ t at key keys i = length input - i
 
 -- ---- the places that are named, each from the next
 
 abbrev at-start : tie.At-loop Inv-loop μ-loop → tie.Start Inv-loop μ-loop
 at-start c = c .before .before .before .before .before .before
 
-abbrev at-run-end : tie.After-run-on-arg Inv-loop μ-loop → tie.After-run-end Inv-loop μ-loop
-at-run-end c = c .before .before .before
+abbrev at-run-end : tie.After-at Inv-loop μ-loop → tie.After-run-end Inv-loop μ-loop
+at-run-end c = c .before .before .before .before
 
 abbrev at-run : tie.After-run-end Inv-loop μ-loop → tie.At-loop Inv-loop μ-loop
 at-run c = c .before .before .before
@@ -37,7 +37,7 @@ at-run c = c .before .before .before
 abbrev at-step-test : tie.After-step Inv-loop μ-loop → tie.In-loop Inv-loop μ-loop
 at-step-test c = c .before .before .before .before .before .before .before
 
-abbrev at-step : tie.After-at Inv-loop μ-loop → tie.After-step Inv-loop μ-loop
+abbrev at-step : tie.After-at2 Inv-loop μ-loop → tie.After-step Inv-loop μ-loop
 at-step c = c .before .before .before .before
 
 -- ---- the loop
@@ -47,47 +47,35 @@ loop-holds c =
     let a = c .before .before .before .before .before .args in
     (search needs, search needs, c .before .batch-key .ensures, c .schedule .ensures, from-start (a .input .now) (a .s) (a .t .now))
 
-sub-run-on : tie.Need-sub-run-on Inv-loop μ-loop
-sub-run-on c = c .before .before .run-end .ensures .starts
-
-part-run-on-start : tie.Need-part-run-on-start Inv-loop μ-loop
-part-run-on-start c = omega (arith, c .before .before .run-end .ensures .starts)
-
-part-run-on-end : tie.Need-part-run-on-end Inv-loop μ-loop
-part-run-on-end c = omega (arith, c .before .before .run-end .ensures .starts, c .before .before .run-end .ensures .within)
-
-run-on-requires : tie.Need-run-on-requires Inv-loop μ-loop
-run-on-requires c κs =
-    let at-loop = at-run (at-run-end c) in
-    let a = at-start at-loop .args in
-    let l = at-loop .loop in
-    let r = at-run-end c .run-end .ensures in (
-      at-loop .before .before .before .box-table .ensures,
+run-from-requires : tie.Need-run-from-requires Inv-loop μ-loop
+run-from-requires c κs =
+    let at-loop = at-run (c .before .before) in
+    let l = at-loop .loop in (
+      at-loop .before .before .before .joined-table .ensures,
       l .inv .3 ∙ ap scheduleOf (l .inv .2),
-      rw (run-length (a .input .now) (l .i) (l .at) (l .t) _ r (c .before .before .if1 .taken)) (r .fits),
+      c .before .before .run-end .ensures,
+      c .before .if1 .taken,
     )
 
 loop-less : tie.Need-loop-less Inv-loop μ-loop
-loop-less c = omega (arith, at-run-end (c .before) .run-end .ensures .within)
+loop-less c = omega (arith, c .before .run-from .ensures .ahead, c .before .run-from .ensures .within)
 
 loop-again : tie.Need-loop-again Inv-loop μ-loop
 loop-again c =
-    let at-loop = at-run (at-run-end (c .before)) in
-    let a = at-start at-loop .args in
-    let l = at-loop .loop in
-    let r = at-run-end (c .before) .run-end .ensures in (
-      r .within,
+    let l = at-run (at-run-end c) .loop in
+    let k = c .before .run-from .ensures in (
+      k .within,
       l .inv .1,
-      l .inv .2 ∙ run-key _ _ _ (c .run-on .ensures),
+      l .inv .2 ∙ k .same-key,
       l .inv .3,
-      runs-through (a .input .now) (l .i) (l .at) (l .t) _ r (c .before .before .before .if1 .taken) (c .run-on .ensures) ∙ l .inv .4,
+      k .same (l .t) ∙ l .inv .4,
     )
 
 step-requires : tie.Need-step-requires Inv-loop μ-loop
 step-requires c κs =
     let at-loop = c .before .before .before .before .before .before .before in
-    let at-box-table = at-loop .before .before .before in
-    let l = at-loop .loop .inv in (at-box-table .box-table .ensures, l .3 ∙ ap scheduleOf (l .2))
+    let at-joined-table = at-loop .before .before .before in
+    let l = at-loop .loop .inv in (at-joined-table .joined-table .ensures, l .3 ∙ ap scheduleOf (l .2))
 
 add-i : tie.Need-add-i Inv-loop μ-loop
 add-i c = omega (
@@ -157,10 +145,7 @@ scan-spec =
     (λ c κs. search needs)
     loop-holds
     (λ c κs. omega arith)
-    sub-run-on
-    part-run-on-start
-    part-run-on-end
-    run-on-requires
+    run-from-requires
     loop-less
     loop-again
     (λ c. omega arith)

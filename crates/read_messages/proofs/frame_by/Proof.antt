@@ -6,8 +6,8 @@ use Rattle.read_messages.proofs.frame_by.Tie as tie
 returns : tie.Need-returns
 returns c =
     let at-key-or-0 = c .before .before .before in
-    let at-box-table = at-key-or-0 .before in
-    frame-made _ _ (at-box-table .box-table .ensures) (at-key-or-0 .key-or-0 .ensures) (c .before .before .schedule .ensures)
+    let at-joined-table = at-key-or-0 .before in
+    frame-made _ _ (at-joined-table .joined-table .ensures) (at-key-or-0 .key-or-0 .ensures) (c .before .before .schedule .ensures)
     (c .finish .ensures)
 
 pub frame-by-spec : {M : Type 1} → statement M

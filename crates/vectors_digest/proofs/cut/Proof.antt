@@ -6,10 +6,10 @@ use Rattle.vectors_digest.proofs.cut.Statement.{statement}
 use Rattle.vectors_digest.proofs.cut.Tie as tie
 
 abbrev Inv-loop : tie.InvT-loop
-Inv-loop label key m bytes size boxes keys r₀ at₀ r at = at ≤ length bytes
+Inv-loop label key m bytes size table keys r₀ at₀ r at = at ≤ length bytes
 
 abbrev μ-loop : tie.MeasureT-loop
-μ-loop label key m bytes size boxes keys r₀ at₀ r at = length bytes - at
+μ-loop label key m bytes size table keys r₀ at₀ r at = length bytes - at
 
 pub cut-spec : {M : Type 1} → statement M
 cut-spec =

@@ -6,10 +6,10 @@ use Rattle.vectors_digest.proofs.raw.Statement.{statement}
 use Rattle.vectors_digest.proofs.raw.Tie as tie
 
 abbrev Inv-loop : tie.InvT-loop
-Inv-loop label key bytes boxes keys s₀ i₀ s i = i ≤ length bytes
+Inv-loop label key bytes table keys s₀ i₀ s i = i ≤ length bytes
 
 abbrev μ-loop : tie.MeasureT-loop
-μ-loop label key bytes boxes keys s₀ i₀ s i = length bytes - i
+μ-loop label key bytes table keys s₀ i₀ s i = length bytes - i
 
 pub raw-spec : {M : Type 1} → statement M
 raw-spec =
