@@ -3,11 +3,11 @@
  * messages round its records, and the desk, which checks what the bank sends back.
  *
  * To build, at the root of the repository, with the Rattle kit:
- *     rt staticlib edge                                                  proves the library, writes target/staticlib/libedge.a
+ *     sh scripts/staticlib edge                                          proves the library, writes target/staticlib/libedge.a
  *     cc -std=c99 -Iinclude box.c target/staticlib/libedge.a -o box      compiles and links; nothing else is needed
  * On a processor that isn't x86-64: sh scripts/nativelib edge, and target/native/libedge.a.
- * The customer's calls (the last two sections) are in an archive of their own: rt staticlib desk_edge, target/staticlib/libdesk_edge.a. A box
- * links the archive that it calls; both may be linked together.
+ * The customer's calls (the last two sections) are in an archive of their own: sh scripts/staticlib desk_edge, target/staticlib/libdesk_edge.a.
+ * A box links the archive that it calls; both may be linked together.
  *
  * A bank's table is 49,152 bytes that the box keeps (docs/FORMAT.md has every byte); a file on its way is a session of
  * lp_session_size() bytes. Every call works on the memory that it is lent and keeps none of it: no call allocates, waits,

@@ -45,7 +45,7 @@ rows() { # SHAPE FILE...
             else { row(wide(t), name[shape, i]); on(wide(t)) }
         }
     }
-    /^[a-z][A-Za-z]* *([a-z]+ )*=$/ { shape = $1; next }
+    /^[a-z][A-Za-z_]* *([a-z]+ )*=$/ { shape = $1; next }
     /^    .*  -- / && shape != "" {
         t = $0
         sub(/^ +/, "", t)

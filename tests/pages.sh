@@ -78,7 +78,7 @@ while read -r line; do
     # Each command with its words: in the whole help, in its own, in the line that says what was expected, on the page and in README.md.
     squeezed all | grep -qF -- " $line " || fail "help.rt: the whole help has no '$line'"
     squeezed "of.$i" | grep -qF -- "usage: lentilpot $line " || fail "help.rt: the help of command $i doesn't begin with '$line'"
-    [ "$(text_of tell_words $i)" = "$line" ] || fail "help.rt: tell_words $i isn't '$line'"
+    [ "$(text_of words_of $i)" = "$line" ] || fail "help.rt: words_of $i isn't '$line'"
     sed 's/\\f.//g; s/\\-/-/g' "$page" | grep -qxF -- "$line" || fail "docs/lentilpot.1 has no '$line'"
     squeezed "$root/README.md" | grep -qF -- " lentilpot $line " || fail "README.md has no 'lentilpot $line'"
 done <commands
@@ -229,7 +229,7 @@ while read -r line; do
     i=$((i + 1))
     text_of of $i >"of.$i"
     prints "of.$i" "${line%% *}" --help
-    [ "$(text_of tell_words $i)" = "$line" ] || fail "bureau_help: tell_words $i isn't '$line'"
+    [ "$(text_of words_of $i)" = "$line" ] || fail "bureau_help: words_of $i isn't '$line'"
 done <bureau.commands
 text_of version 1 >number
 [ "$(cat number)" = "bureau $(sed -n 's/^version //p' "$root/docs/commands")" ] || fail "bureau_help: its version isn't that of docs/commands"

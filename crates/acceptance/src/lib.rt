@@ -1,4 +1,7 @@
 // What acceptance asks of a customer's stamps, and what it grants and changes.
+
+#![tactic(auto)]
+
 ghost use Rattle.std.specs.Prelude.{◌≡◌, List, ℕ, ◌≤◌, length, take};
 ghost use Rattle.calendar.specs.Banking.{earliest_good};
 ghost use Rattle.acceptance.specs.Stamps.{holds_stamp, stamp_old, live_stamps, live_once, once_used, in_places, with_stamp};

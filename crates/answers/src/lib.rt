@@ -1,4 +1,7 @@
 // Which reply answers what: the form, and the keys of the message's generations.
+
+#![tactic(auto)]
+
 ghost use Rattle.std.specs.Prelude.{◌≡◌, take};
 ghost use Rattle.table.specs.Decode.{table_of};
 ghost use Rattle.answers.specs.Answers.{bare_answer, full_answer, verdict_answer};

@@ -1,4 +1,7 @@
 // The cipher for a benchmark in another language: many blocks in one call.
+
+#![tactic(auto)]
+
 ghost use Rattle.std.specs.Prelude.{◌≡◌};
 ghost use Rattle.des.specs.Des.{schedule_of};
 ghost use Rattle.bench_des.specs.Again.{again, scheduled};

@@ -1,4 +1,7 @@
 // The digest for a benchmark in another language: one record of any length.
+
+#![tactic(auto)]
+
 ghost use Rattle.std.specs.Prelude.{◌≡◌};
 ghost use Rattle.des.specs.Des.{enciphered};
 ghost use Rattle.digest.specs.Running.{begun, alike, took_bytes};

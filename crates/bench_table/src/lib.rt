@@ -1,4 +1,7 @@
 // The table's check for a benchmark in another language: many checks in one call.
+
+#![tactic(auto)]
+
 ghost use Rattle.std.specs.Prelude.{◌≡◌};
 ghost use Rattle.table.specs.Decode.{is_table};
 ghost use Rattle.bench_table.specs.Counted.{counted};

@@ -1,4 +1,7 @@
 // The customer's messages: ESI, SUO and VAR built round the records of a batch.
+
+#![tactic(auto)]
+
 ghost use Rattle.std.specs.Prelude.{◌≡◌, List, [], ◌∷◌, ◌++◌, ℕ, ◌≤◌, length};
 ghost use Rattle.ground.specs.Choice.{fails};
 ghost use Rattle.text.specs.Numbers.{decimal_digits, hex_digits};
@@ -25,7 +28,7 @@ pub struct Given {
 }
 
 // A batch on its way: its SUO, the one-time key, the working key of that moment, and the digest of its records so far.
-#[derive(Drop)]
+#[derive(Clone, Copy)]
 pub struct Batch {
     pub suo: [u8; 128],
     pub once: u64,
@@ -34,7 +37,7 @@ pub struct Batch {
 }
 
 // An ESI or a VAR, and what was sent by it; zeros where the call was refused.
-#[derive(Drop)]
+#[derive(Clone, Copy)]
 pub struct BuiltMessage {
     pub refusal: u32,
     pub text: [u8; 161],
@@ -42,7 +45,7 @@ pub struct BuiltMessage {
 }
 
 // A SUO stands in its batch.
-#[derive(Drop)]
+#[derive(Clone, Copy)]
 pub struct BuiltSuo {
     pub refusal: u32,
     pub batch: Batch,

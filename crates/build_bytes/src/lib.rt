@@ -1,4 +1,7 @@
 // A batch on its way as bytes that a bureau keeps between calls. The offsets are those of docs/FORMAT.md.
+
+#![tactic(auto)]
+
 ghost use Rattle.std.specs.Prelude.{◌≡◌, length};
 ghost use Rattle.codec.specs.Layout.{dec};
 ghost use Rattle.build_bytes.specs.Layout.{batch_size, state_shape, state_from};

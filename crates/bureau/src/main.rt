@@ -1,4 +1,8 @@
-// The program without an exit status: what it writes is compared. The one with it is the same function under a C main (program/main.c).
-fn main() {
-    bureau_program::run();
+// The customer's program; its exit status says how a command ended.
+#![tactic(auto)]
+
+use std::process::ExitCode;
+
+fn main(rt: HostRuntime) -> ExitCode {
+    bureau_program::run(&rt)
 }

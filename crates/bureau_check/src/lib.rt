@@ -1,48 +1,46 @@
 // The command check: each reply of the bank against what was sent. The desk is saved before anything is said: a key that a reply enclosed
 // comes only once.
+#![tactic(auto)]
+
 mod replies;
 mod words;
 
 use cli_held::Held;
+use cli_terminal::options::Words;
 use cli_terminal::program::Program;
-use cli_terminal::status::Status;
-use cli_terminal::{options, say};
+use cli_terminal::say;
+use cli_terminal::status::{Status, Told};
 use desk::Finding;
+use size_limit::Growing;
+use std::fs::File;
+use std::io;
 use words::EsiWord;
 
-// How far replies were checked: where the next one may begin, whether all so far is well, and whether it could be written.
-#[derive(Drop)]
-struct Told {
+// How far replies were checked: where the next one may begin, and whether all so far is well.
+#[derive(Clone, Copy)]
+struct Progress {
     from: usize,
     is_well: bool,
-    is_written: bool,
 }
 
 // ---- words
 
-pub fn check() -> Status {
-    if !bureau_help::are_as_many(4, 4, 5) {
-        return Status::Trouble;
-    }
-    if !options::are_taken(Program::Bureau, b"") {
-        return Status::Trouble;
-    }
-    let mut path = io::buffer();
-    let n = cli_names::of_kept(Program::Bureau, 2, b"DESK", &mut path);
-    if n == 0 {
-        return Status::Trouble;
-    }
-    check_words(&path[..n])
+pub fn check(rt: &HostRuntime, words: &Words) -> Result<Status, Told> {
+    bureau_help::are_as_many(rt, words, 4, 4, 5)?;
+    words.are_taken(rt, Program::Bureau, b"")?;
+    let path = cli_names::of_kept(rt, Program::Bureau, words.word(2), b"DESK")?;
+    check_words(rt, words, path.as_str())
 }
 
 // The number of a file; 0 where the word is left out.
-fn number() -> cli_words::Number {
-    if options::count() < 5 {
-        return cli_words::Number::Is(0);
+fn number(rt: &HostRuntime, words: &Words) -> Result<u32, Told> {
+    if words.count() < 5 {
+        return Ok(0);
     }
     cli_asked::digits(
+        rt,
         Program::Bureau,
-        4,
+        words.word(4),
         1,
         9,
         b"NUMBER",
@@ -50,195 +48,217 @@ fn number() -> cli_words::Number {
     )
 }
 
-fn check_words(path: &[u8]) -> Status {
-    let mut name = io::buffer();
-    let n = cli_names::of(Program::Bureau, 3, b"REPLIES", &mut name);
-    if n == 0 {
-        return Status::Trouble;
-    }
-    let cli_words::Number::Is(file) = number() else {
-        return Status::Trouble;
-    };
-    let input = cli_beside::open_told(Program::Bureau, b"can't open the replies", &name[..n]);
-    if input < 0 {
-        return Status::Trouble;
-    }
-    check_read(path, &name[..n], input, file as u64)
+fn check_words(rt: &HostRuntime, words: &Words, path: &str) -> Result<Status, Told> {
+    let name = cli_names::of(rt, Program::Bureau, words.word(3), b"REPLIES")?;
+    let file = number(rt, words)?;
+    let mut input = cli_beside::open_told(
+        rt,
+        Program::Bureau,
+        b"can't open the replies",
+        name.as_str(),
+    )?;
+    check_read(rt, path, name.as_str(), &mut input, file as u64)
 }
 
 // All the replies at once: those of 64 messages are some 20,000 bytes.
-fn check_read(path: &[u8], name: &[u8], input: i32, file: u64) -> Status {
-    let mut r = io::large_buffer();
-    let n = io::read_full(input, &mut r);
-    let more = cli_beside::read_over(Program::Bureau, input, b"can't read the replies", name);
-    if more < 0 {
-        return Status::Trouble;
-    }
-    if more > 0 {
+fn check_read(
+    rt: &HostRuntime,
+    path: &str,
+    name: &str,
+    input: &mut File,
+    file: u64,
+) -> Result<Status, Told> {
+    let mut r = [0u8; 65536];
+    let n = cli_files::read_full(input, &mut r);
+    let more = cli_beside::read_over(rt, Program::Bureau, input, b"can't read the replies", name)?;
+    if more {
         cli_beside::tell(
+            rt,
             Program::Bureau,
             name,
             b"too long for the replies to a file: expected at most 65536 bytes\n",
         );
-        return Status::Trouble;
+        return Err(Told);
     }
-    check_locked(path, &r[..n], file)
+    check_locked(rt, path, &r[..n], file)
 }
 
 // ---- the desk
 
-fn check_locked(path: &[u8], r: &[u8], asked: u64) -> Status {
-    let h = cli_held::take(Program::Bureau, path);
-    let run = h.run;
-    if run.process == 0 {
-        return Status::Trouble;
-    }
+fn check_locked(rt: &HostRuntime, path: &str, r: &[u8], asked: u64) -> Result<Status, Told> {
+    let h = cli_held::take(rt, Program::Bureau, path)?;
     let mut d = [0u8; 16640];
-    if !bureau_show::is_loaded(path, &mut d) {
-        cli_held::release(Program::Bureau, path, h);
-        return Status::Trouble;
+    match loaded_for(rt, path, &mut d, r, asked) {
+        Ok(file) => check_file(rt, path, &h, &mut d, r, file),
+        Err(told) => {
+            cli_held::release(rt, Program::Bureau, path, &h);
+            Err(told)
+        }
     }
-    let file = file_of(path, &d, r, asked);
-    if file == 0 {
-        cli_held::release(Program::Bureau, path, h);
-        return Status::Trouble;
-    }
-    check_file(path, h, &mut d, r, file)
+}
+
+// Loads the desk; the file that the replies are about.
+fn loaded_for(
+    rt: &HostRuntime,
+    path: &str,
+    d: &mut [u8],
+    r: &[u8],
+    asked: u64,
+) -> Result<u64, Told> {
+    bureau_show::is_loaded(rt, path, d)?;
+    file_of(rt, path, d, r, asked)
 }
 
 // The file that the replies are about, or what is the matter.
-fn file_of(path: &[u8], d: &[u8], r: &[u8], asked: u64) -> u64 {
+fn file_of(rt: &HostRuntime, path: &str, d: &[u8], r: &[u8], asked: u64) -> Result<u64, Told> {
     if asked != 0 {
         if replies::next_of(d, asked, 0, 0) < replies::NONE {
-            return asked;
+            return Ok(asked);
         }
         cli_beside::tell(
+            rt,
             Program::Bureau,
             path,
             b"the desk keeps no message of a file of that number: 'show' lists those that wait\n",
         );
-        return 0;
+        return Err(Told);
     }
     let file = replies::file_of(d, r);
     if file == 0 {
         cli_beside::tell(
+            rt,
             Program::Bureau,
             path,
             b"it can't be told which file these replies answer: name its NUMBER, 'show' lists those that wait\n",
         );
+        return Err(Told);
     }
-    file
+    Ok(file)
 }
 
 // Checks all, saves the desk where it changed, then lists what was found.
-fn check_file(path: &[u8], h: Held, d: &mut [u8], r: &[u8], file: u64) -> Status {
-    let fd = cli_beside::nameless(
+fn check_file(
+    rt: &HostRuntime,
+    path: &str,
+    h: &Held,
+    d: &mut [u8],
+    r: &[u8],
+    file: u64,
+) -> Result<Status, Told> {
+    let mut before = [0u8; 16640];
+    text::copy(&mut before, d);
+    match found(rt, path, d, r, file) {
+        Ok((mut findings, is_well)) => {
+            is_kept(rt, path, h, &before, d)?;
+            listed(rt, &mut findings, is_well)
+        }
+        Err(told) => {
+            cli_held::release(rt, Program::Bureau, path, h);
+            Err(told)
+        }
+    }
+}
+
+// What was found, in a file of its own, and whether all is well.
+fn found(
+    rt: &HostRuntime,
+    path: &str,
+    d: &mut [u8],
+    r: &[u8],
+    file: u64,
+) -> Result<(Growing, bool), Told> {
+    let unnamed = cli_beside::nameless(
+        rt,
         Program::Bureau,
         b"nothing was changed: can't make a file for the findings beside the desk",
         path,
-    );
-    if fd < 0 {
-        cli_held::release(Program::Bureau, path, h);
-        return Status::Trouble;
+    )?;
+    let mut findings = Growing::new(rt, unnamed);
+    match checked(&mut findings, d, r, file) {
+        Ok(is_well) => Ok((findings, is_well)),
+        Err(e) => {
+            say::trouble(
+                rt,
+                Program::Bureau,
+                b"nothing was changed: can't write the findings beside the desk",
+                path,
+                &e,
+            );
+            Err(Told)
+        }
     }
-    let mut before = [0u8; 16640];
-    text::copy(&mut before, d);
-    let told = checked(fd, d, r, file);
-    if !told.is_written {
-        say::trouble(
-            Program::Bureau,
-            b"nothing was changed: can't write the findings beside the desk",
-            path,
-        );
-        cli_held::release(Program::Bureau, path, h);
-        return Status::Trouble;
-    }
-    if !is_kept(path, h, &before, d) {
-        return Status::Trouble;
-    }
-    listed(fd, told.is_well)
 }
 
-fn is_kept(path: &[u8], h: Held, before: &[u8], d: &[u8]) -> bool {
+fn is_kept(rt: &HostRuntime, path: &str, h: &Held, before: &[u8], d: &[u8]) -> Result<(), Told> {
     if text::same_bytes(before, d) {
-        cli_held::release(Program::Bureau, path, h);
-        return true;
+        cli_held::release(rt, Program::Bureau, path, h);
+        return Ok(());
     }
-    cli_held::is_saved(Program::Bureau, path, d, h)
+    cli_held::is_saved(rt, Program::Bureau, path, d, h)
 }
 
-fn listed(fd: i32, is_well: bool) -> Status {
-    let is_whole = cli_beside::is_copied(fd);
-    libc::close(fd);
-    if !say::is_said(
+fn listed(rt: &HostRuntime, findings: &mut Growing, is_well: bool) -> Result<Status, Told> {
+    say::is_said(
+        rt,
         Program::Bureau,
-        is_whole,
+        cli_beside::is_copied(rt, findings.file_mut()),
         b"the desk is saved, and the findings can't be listed (check the replies again): ",
-    ) {
-        return Status::Trouble;
-    }
+    )?;
     if is_well {
-        return Status::Served;
+        return Ok(Status::Served);
     }
-    Status::Refused
+    Ok(Status::Refused)
 }
 
 // ---- the replies
 
-fn checked(fd: i32, d: &mut [u8], r: &[u8], file: u64) -> Told {
+// Checks them all; whether all is well.
+fn checked(out: &mut Growing, d: &mut [u8], r: &[u8], file: u64) -> io::Result<bool> {
     let mut seen = [0u8; 128];
-    let told = all_replies(fd, d, &mut seen, r, file);
-    if !told.is_written {
-        return told;
-    }
+    let is_well = all_replies(out, d, &mut seen, r, file)?;
     let esi = esi_word(d, &seen, file);
-    all_missing(fd, d, &seen, file, esi, told.is_well)
+    all_missing(out, d, &seen, file, esi, is_well)
 }
 
-fn all_replies(fd: i32, d: &mut [u8], seen: &mut [u8; 128], r: &[u8], file: u64) -> Told {
-    let mut told = Told {
+fn all_replies(
+    out: &mut Growing,
+    d: &mut [u8],
+    seen: &mut [u8; 128],
+    r: &[u8],
+    file: u64,
+) -> io::Result<bool> {
+    let mut progress = Progress {
         from: 0,
         is_well: true,
-        is_written: true,
     };
-    let n = r.len();
-    let mut at = 0;
-    while at < n {
-        let end = cli_words::part_end(r, at, b'\n');
-        if n < end {
-            return told;
-        }
-        if end < at {
-            return told;
-        }
-        let next = std::num::wrapping_add_usize(end, 1);
-        told = one_line(fd, d, seen, &r[at..end], file, told);
-        if !told.is_written {
-            return told;
-        }
-        if next <= at {
-            return told;
-        }
-        at = next;
+    for line in r.split(|&b| b == b'\n') {
+        progress = one_line(out, d, seen, line, file, progress)?;
     }
-    told
+    Ok(progress.is_well)
 }
 
 // An empty line is no reply.
-fn one_line(fd: i32, d: &mut [u8], seen: &mut [u8; 128], ended: &[u8], file: u64, t: Told) -> Told {
+fn one_line(
+    out: &mut Growing,
+    d: &mut [u8],
+    seen: &mut [u8; 128],
+    ended: &[u8],
+    file: u64,
+    before: Progress,
+) -> io::Result<Progress> {
     let line = cli_words::without_cr(ended);
-    if line.len() == 0 {
-        return t;
+    if line.is_empty() {
+        return Ok(before);
     }
-    let i = replies::answered_by(d, file, line, t.from);
+    let i = replies::answered_by(d, file, line, before.from);
     if replies::NONE <= i {
-        return Told {
-            from: t.from,
+        words::stray(out, file, line)?;
+        return Ok(Progress {
+            from: before.from,
             is_well: false,
-            is_written: words::stray(fd, file, line),
-        };
+        });
     }
-    one_reply(fd, d, seen, line, i, t)
+    one_reply(out, d, seen, line, i, before)
 }
 
 fn checked_as(d: &[u8], i: usize, line: &[u8]) -> desk::Checked {
@@ -250,39 +270,39 @@ fn checked_as(d: &[u8], i: usize, line: &[u8]) -> desk::Checked {
     desk::check_pte(h, s, line)
 }
 
-fn is_passing(f: Finding) -> bool {
-    match f {
-        Finding::Passes => true,
-        Finding::Fails { code: _, field: _ } => false,
-    }
+fn is_passing(f: &Finding) -> bool {
+    matches!(f, Finding::Passes)
 }
 
 // The four digits of the bank's code, of a reply that passes.
 fn code_in(line: &[u8]) -> [u8; 4] {
     let mut code = [b'0'; 4];
-    if line.len() < 16 {
-        return code;
+    if let Some(digits) = line.get(12..16) {
+        text::copy(&mut code, digits);
     }
-    text::copy(&mut code, &line[12..16]);
     code
 }
 
-fn one_reply(fd: i32, d: &mut [u8], seen: &mut [u8; 128], line: &[u8], i: usize, t: Told) -> Told {
+fn one_reply(
+    out: &mut Growing,
+    d: &mut [u8],
+    seen: &mut [u8; 128],
+    line: &[u8],
+    i: usize,
+    before: Progress,
+) -> io::Result<Progress> {
     let c = checked_as(d, i, line);
-    let found = c.finding;
-    let passes = is_passing(found);
-    let before = working(d);
-    let held = c.held;
-    bureau_file::set_held(d, held);
+    let passes = is_passing(&c.finding);
+    let key_before = working(d);
+    bureau_file::set_held(d, c.held);
     answer(d, i, passes, c.letter, code_in(line));
     mark(seen, i, c.letter);
-    let is_written = words::reply(fd, d, i, found, c.letter, line)
-        && is_key_told(fd, before, working(d));
-    Told {
-        from: std::num::wrapping_add_usize(i, 1),
-        is_well: t.is_well && passes && c.letter == b'K',
-        is_written,
-    }
+    words::reply(out, d, i, &c.finding, c.letter, line)?;
+    tell_key(out, &key_before, &working(d))?;
+    Ok(Progress {
+        from: i.wrapping_add(1),
+        is_well: before.is_well && passes && c.letter == b'K',
+    })
 }
 
 // A message is answered once a reply to it passes.
@@ -294,27 +314,21 @@ fn answer(d: &mut [u8], i: usize, passes: bool, letter: u8, code: [u8; 4]) {
 
 // What a reply said of a message: that it came, and whether it is an E.
 fn mark(seen: &mut [u8; 128], i: usize, letter: u8) {
-    if 128 <= i {
-        return;
+    if let Some(place) = seen.get_mut(i) {
+        *place = if letter == b'E' { 2 } else { 1 };
     }
-    if letter == b'E' {
-        seen[i] = 2;
-        return;
-    }
-    seen[i] = 1;
 }
 
 fn working(d: &[u8]) -> desk::Keys {
-    let h = bureau_file::held(d);
-    h.working
+    bureau_file::held(d).working
 }
 
 // A key that a reply brought is told with what to compare.
-fn is_key_told(fd: i32, before: desk::Keys, now: desk::Keys) -> bool {
+fn tell_key(out: &mut Growing, before: &desk::Keys, now: &desk::Keys) -> io::Result<()> {
     if before.generation == now.generation && before.key == now.key {
-        return true;
+        return Ok(());
     }
-    words::key(fd, now)
+    words::key(out, now)
 }
 
 // ---- messages without a reply
@@ -323,13 +337,13 @@ fn is_key_told(fd: i32, before: desk::Keys, now: desk::Keys) -> bool {
 // anyone's, and who believes it may send twice what was accepted.
 fn esi_word(d: &[u8], seen: &[u8; 128], file: u64) -> EsiWord {
     let i = replies::next_of(d, file, bureau_file::ESI, 0);
-    if 128 <= i {
+    let Some(&said) = seen.get(i) else {
         return EsiWord::NoRefusal;
-    }
+    };
     if bureau_file::is_answered(d, i) {
         return passed_word(bureau_file::letter_of(d, i), bureau_file::code_of(d, i));
     }
-    if seen[i] == 2 {
+    if said == 2 {
         return EsiWord::Doubted;
     }
     EsiWord::NoRefusal
@@ -347,39 +361,24 @@ fn passed_word(letter: u8, code: [u8; 4]) -> EsiWord {
 }
 
 fn all_missing(
-    fd: i32,
+    out: &mut Growing,
     d: &[u8],
     seen: &[u8; 128],
     file: u64,
     esi: EsiWord,
     is_well: bool,
-) -> Told {
-    let mut told = Told {
-        from: 0,
-        is_well,
-        is_written: true,
-    };
-    let mut i = 0;
-    while i < 128 {
-        if seen[i] == 0 {
-            told = one_missing(fd, d, i, file, esi, told);
-            if !told.is_written {
-                return told;
-            }
+) -> io::Result<bool> {
+    let mut all_well = is_well;
+    for i in 0..128 {
+        if seen[i] == 0 && bureau_file::file_of(d, i) == file {
+            words::missing(out, d, i, esi)?;
+            all_well = all_well && was_accepted(d, i);
         }
-        i += 1;
     }
-    told
+    Ok(all_well)
 }
 
-fn one_missing(fd: i32, d: &[u8], i: usize, file: u64, esi: EsiWord, t: Told) -> Told {
-    if bureau_file::file_of(d, i) != file {
-        return t;
-    }
-    let was_accepted = bureau_file::is_answered(d, i) && bureau_file::letter_of(d, i) == b'K';
-    Told {
-        from: t.from,
-        is_well: t.is_well && was_accepted,
-        is_written: words::missing(fd, d, i, esi),
-    }
+// Whether the bank accepted a message, in a reply that was checked before.
+fn was_accepted(d: &[u8], i: usize) -> bool {
+    bureau_file::is_answered(d, i) && bureau_file::letter_of(d, i) == b'K'
 }

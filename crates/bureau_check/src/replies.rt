@@ -46,24 +46,20 @@ fn has_stamp(d: &[u8], i: usize, stamp: [u8; 15]) -> bool {
 
 // The entry of a file with that kind and stamp.
 fn by_stamp(d: &[u8], file: u64, kind: u8, stamp: [u8; 15]) -> usize {
-    let mut i = 0;
-    while i < NONE {
+    for i in 0..NONE {
         if is_of(d, i, file, kind) && has_stamp(d, i, stamp) {
             return i;
         }
-        i += 1;
     }
     NONE
 }
 
 // The next entry of a file with that kind, from a place on.
 pub fn next_of(d: &[u8], file: u64, kind: u8, from: usize) -> usize {
-    let mut i = from;
-    while i < NONE {
+    for i in from..NONE {
         if is_of(d, i, file, kind) {
             return i;
         }
-        i += 1;
     }
     NONE
 }
@@ -93,25 +89,11 @@ pub fn answered_by(d: &[u8], file: u64, line: &[u8], from: usize) -> usize {
 
 // The file of the first reply whose stamp was sent; 0 where there is none.
 fn file_by_stamps(d: &[u8], r: &[u8]) -> u64 {
-    let n = r.len();
-    let mut at = 0;
-    while at < n {
-        let end = cli_words::part_end(r, at, b'\n');
-        if n < end {
-            return 0;
-        }
-        if end < at {
-            return 0;
-        }
-        let next = std::num::wrapping_add_usize(end, 1);
-        let file = file_by_stamp(d, &r[at..end]);
+    for line in r.split(|&b| b == b'\n') {
+        let file = file_by_stamp(d, line);
         if file != 0 {
             return file;
         }
-        if next <= at {
-            return 0;
-        }
-        at = next;
     }
     0
 }
@@ -128,8 +110,7 @@ fn file_by_stamp(d: &[u8], line: &[u8]) -> u64 {
 // The one file that waits; 0 where there is none, or more than one.
 fn lone_file(d: &[u8]) -> u64 {
     let mut file = 0;
-    let mut i = 0;
-    while i < NONE {
+    for i in 0..NONE {
         let own = bureau_file::file_of(d, i);
         if own != 0 && !bureau_file::is_answered(d, i) {
             if file != 0 && file != own {
@@ -137,7 +118,6 @@ fn lone_file(d: &[u8]) -> u64 {
             }
             file = own;
         }
-        i += 1;
     }
     file
 }

@@ -1,6 +1,8 @@
 // The customer's desk as the 16,640 bytes of its file: the keys, the key maker, and what was sent and waits for a reply. Where each stands:
 // docs/FORMAT.md. Every place is tested before it is used, so no call asks for anything; bytes of another length say zeros and stay.
 
+#![tactic(auto)]
+
 // An entry has 128 bytes, from byte 256 on.
 const ENTRIES: usize = 128;
 
@@ -10,7 +12,7 @@ pub const ESI: u8 = b'E';
 pub const BATCH: u8 = b'P';
 
 // The oldest entries, which had to make room: how many they were, and of which files.
-#[derive(Drop)]
+#[derive(Clone, Copy)]
 pub struct Forgotten {
     pub count: u64,
     pub first: u64,
@@ -75,7 +77,7 @@ fn entry_at(i: usize) -> usize {
 }
 
 fn in_entry(i: usize, at: usize) -> usize {
-    std::num::wrapping_add_usize(entry_at(i), at)
+    entry_at(i).wrapping_add(at)
 }
 
 // ---- what the bytes say
@@ -150,14 +152,7 @@ pub fn stamp_of(d: &[u8], i: usize) -> [u8; 15] {
 // ---- whether they are a desk's
 
 fn is_zero(b: &[u8]) -> bool {
-    let mut i = 0;
-    while i < b.len() {
-        if b[i] != 0 {
-            return false;
-        }
-        i += 1;
-    }
-    true
+    b.iter().all(|&x| x == 0)
 }
 
 fn is_stamp(b: &[u8]) -> bool {
@@ -220,12 +215,10 @@ fn are_entries(d: &[u8]) -> bool {
     if 128 < count {
         return false;
     }
-    let mut i = 0;
-    while i < ENTRIES {
+    for i in 0..ENTRIES {
         if !is_entry_there(d, i, count) {
             return false;
         }
-        i += 1;
     }
     true
 }
@@ -298,7 +291,7 @@ pub fn add(d: &mut [u8], s: desk::Sent, file: u64, kind: u8) {
     put_bytes(d, entry_at(i), &bytes);
     put_number(d, in_entry(i, 100), file);
     put_bytes(d, in_entry(i, 108), &[kind, 0, 0, 0]);
-    put_number(d, 152, std::num::wrapping_add_u64(count, 1));
+    put_number(d, 152, count.wrapping_add(1));
 }
 
 // ---- room
@@ -324,7 +317,7 @@ fn kept_at(d: &mut [u8], i: usize, to: usize) -> usize {
     let e = entry(d, i);
     put_entry(d, i, [0u8; 128]);
     put_entry(d, to, e);
-    std::num::wrapping_add_usize(to, 1)
+    to.wrapping_add(1)
 }
 
 // An answered entry goes.
@@ -336,30 +329,26 @@ fn clear(d: &mut [u8], i: usize) {
 
 // Leaves the entries that wait, in their order.
 pub fn drop_answered(d: &mut [u8]) {
-    let mut to = 0;
-    let mut i = 0;
-    while i < ENTRIES {
+    let mut to = 0usize;
+    for i in 0..ENTRIES {
         to = kept_at(d, i, to);
         clear(d, i);
-        i += 1;
     }
     put_number(d, 152, to as u64);
 }
 
 // Every entry by that many places to the front; the first ones go.
 fn shift(d: &mut [u8], by: usize) {
-    let mut i = 0;
-    while i < ENTRIES {
-        let e = entry(d, std::num::wrapping_add_usize(i, by));
+    for i in 0..ENTRIES {
+        let e = entry(d, i.wrapping_add(by));
         put_entry(d, i, e);
-        i += 1;
     }
 }
 
 // Makes room for that many entries: where there is too little, the oldest are forgotten.
 pub fn make_room(d: &mut [u8], wanted: u64) -> Forgotten {
     let count = entries(d);
-    let all = std::num::wrapping_add_u64(count, wanted);
+    let all = count.wrapping_add(wanted);
     if all <= 128 {
         return Forgotten {
             count: 0,
@@ -372,9 +361,9 @@ pub fn make_room(d: &mut [u8], wanted: u64) -> Forgotten {
     let forgotten = Forgotten {
         count: over,
         first: file_of(d, 0),
-        last: file_of(d, std::num::wrapping_sub_usize(by, 1)),
+        last: file_of(d, by.wrapping_sub(1)),
     };
     shift(d, by);
-    put_number(d, 152, std::num::wrapping_sub_u64(count, over));
+    put_number(d, 152, count.wrapping_sub(over));
     forgotten
 }

@@ -1,6 +1,10 @@
 // Made by scripts/pages from docs/commands-bureau: change that and not this. What the program prints for help.
+#![tactic(auto)]
+
+use cli_terminal::options::Words;
 use cli_terminal::program::Program;
-use cli_terminal::{options, say};
+use cli_terminal::say;
+use cli_terminal::status::Told;
 
 // The number of the command that a word names, in the order of the list; 0 for none.
 pub fn command_of(word: &[u8]) -> u32 {
@@ -26,44 +30,53 @@ pub fn command_of(word: &[u8]) -> u32 {
 }
 
 // The commands' names, for the line that says what was expected.
-pub fn tell_names() {
+pub fn tell_names(rt: &HostRuntime) {
     say::expected(
+        rt,
         Program::Bureau,
         b"COMMAND",
         b"open, key, make, check, show or help",
     );
 }
 
-// The words of a command, to standard error, as the end of a line.
-pub fn tell_words(command: u32) {
+// The words of a command, as the end of a line.
+pub fn words_of(command: u32) -> &'static [u8] {
     match command {
-        1 => say::err(
+        1 =>
             b"open DESK IDENTITY QUALIFIER BANK BANKQUALIFIER SOFTWARE PART1 PART2 CHECK GENERATION K V\n",
-        ),
-        2 => say::err(b"key DESK PART1 PART2 CHECK GENERATION\n"),
-        3 => say::err(
+        2 => b"key DESK PART1 PART2 CHECK GENERATION\n",
+        3 =>
             b"make DESK DATE TIME CLOCK METHOD FILE [RECORDS...] [--ask] [--end] [--crlf] [--area-a]\n",
-        ),
-        4 => say::err(b"check DESK REPLIES [NUMBER]\n"),
-        5 => say::err(b"show DESK\n"),
-        _ => say::err(b"help [COMMAND]\n"),
+        4 => b"check DESK REPLIES [NUMBER]\n",
+        5 => b"show DESK\n",
+        _ => b"help [COMMAND]\n",
     }
+}
+
+// The same, to standard error.
+pub fn tell_words(rt: &HostRuntime, command: u32) {
+    say::err(rt, words_of(command));
 }
 
 // Whether there are as many words as the command takes, or what was expected.
-pub fn are_as_many(command: u32, low: usize, high: usize) -> bool {
-    if options::are_as_many(Program::Bureau, low, high) {
-        return true;
+pub fn are_as_many(
+    rt: &HostRuntime,
+    words: &Words,
+    command: u32,
+    low: usize,
+    high: usize,
+) -> Result<(), Told> {
+    let are_so = words.are_as_many(rt, Program::Bureau, low, high);
+    if are_so.is_err() {
+        tell_words(rt, command);
     }
-    tell_words(command);
-    false
+    are_so
 }
 
-// The help of one command, to standard output; whether it could be written.
-pub fn of(command: u32) -> bool {
+// The help of one command.
+pub fn of(command: u32) -> &'static [u8] {
     match command {
-        1 => say::out(
-            b"usage: bureau open DESK IDENTITY QUALIFIER BANK BANKQUALIFIER SOFTWARE PART1
+        1 => b"usage: bureau open DESK IDENTITY QUALIFIER BANK BANKQUALIFIER SOFTWARE PART1
            PART2 CHECK GENERATION K V
 
 Opens a desk: one customer at one bank, with the first transport key.
@@ -132,9 +145,7 @@ typed at '-' is seen on the screen, unless 'stty -echo' comes before and
                 the whole
   --            ends the options, for a word that begins with two dashes
 ",
-        ),
-        2 => say::out(
-            b"usage: bureau key DESK PART1 PART2 CHECK GENERATION
+        2 => b"usage: bureau key DESK PART1 PART2 CHECK GENERATION
 
 Enters the next transport key.
 The key before it is kept too, for replies that are still to come. The working
@@ -168,9 +179,7 @@ after.
                 the whole
   --            ends the options, for a word that begins with two dashes
 ",
-        ),
-        3 => say::out(
-            b"usage: bureau make DESK DATE TIME CLOCK METHOD FILE [RECORDS...] [--ask]
+        3 => b"usage: bureau make DESK DATE TIME CLOCK METHOD FILE [RECORDS...] [--ask]
            [--end] [--crlf] [--area-a]
 
 Makes a file to send: an ESI, and a batch for each RECORDS.
@@ -233,9 +242,7 @@ the screen, unless 'stty -echo' comes before and 'stty echo' after.
                 the whole
   --            ends the options, for a word that begins with two dashes
 ",
-        ),
-        4 => say::out(
-            b"usage: bureau check DESK REPLIES [NUMBER]
+        4 => b"usage: bureau check DESK REPLIES [NUMBER]
 
 Checks what the bank sent back.
 A line for each message of the file that the replies answer: the bank's word,
@@ -259,9 +266,7 @@ The same replies may be checked again.
                 the whole
   --            ends the options, for a word that begins with two dashes
 ",
-        ),
-        5 => say::out(
-            b"usage: bureau show DESK
+        5 => b"usage: bureau show DESK
 
 Shows what a desk holds.
 Keys are shown by their check values, never themselves. Then comes each message
@@ -273,9 +278,7 @@ that still waits for a reply that passes. It may run beside any other command.
                 the whole
   --            ends the options, for a word that begins with two dashes
 ",
-        ),
-        _ => say::out(
-            b"usage: bureau help [COMMAND]
+        _ => b"usage: bureau help [COMMAND]
 
 Prints the help, whole or of one command.
 
@@ -287,14 +290,12 @@ Prints the help, whole or of one command.
                 the whole
   --            ends the options, for a word that begins with two dashes
 ",
-        ),
     }
 }
 
 // The whole help: one text and so one write.
-pub fn whole() -> bool {
-    say::out(
-        b"usage: bureau COMMAND WORDS
+pub fn whole() -> &'static [u8] {
+    b"usage: bureau COMMAND WORDS
 
   open     DESK IDENTITY QUALIFIER BANK BANKQUALIFIER SOFTWARE PART1 PART2 CHECK GENERATION K V
            opens a desk: one customer at one bank, with the first transport key
@@ -346,10 +347,9 @@ Exit status  0  served; of a check, every message has a reply that says K and pa
              2  trouble with words or files, told in one line on standard error
 
 'bureau COMMAND --help' tells more of a command and its words.
-",
-    )
+"
 }
 
-pub fn version() -> bool {
-    say::out(b"bureau 1.5\n")
+pub fn version() -> &'static [u8] {
+    b"bureau 1.5\n"
 }

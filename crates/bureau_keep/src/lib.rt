@@ -1,206 +1,167 @@
 // The commands open and key: a call of `desk` between a load and a save. Keys are read from standard input or a file, never from the
 // command line.
+#![tactic(auto)]
+
 use cli_held::Held;
+use cli_terminal::options::Words;
 use cli_terminal::program::Program;
-use cli_terminal::status::Status;
-use cli_terminal::{options, say, status};
+use cli_terminal::status::{Status, Told};
+use cli_terminal::{say, status};
+use std::io;
 
-// A transport key's words.
-#[derive(Drop)]
-struct KeyWords {
-    good: bool,
-    parts: desk::Parts,
-}
-
-fn not_asked() -> KeyWords {
-    KeyWords {
-        good: false,
-        parts: desk::Parts {
-            part1: 0,
-            part2: 0,
-            check: 0,
-            generation: 0,
-        },
-    }
-}
-
-// PART1 PART2 CHECK GENERATION, from word i on.
-fn asked(i: usize) -> KeyWords {
-    let cli_words::Block::Of(part1) = cli_asked::hidden_key(Program::Bureau, i, b"PART1") else {
-        return not_asked();
-    };
-    let cli_words::Block::Of(part2) = cli_asked::hidden_key(Program::Bureau, after(i, 1), b"PART2")
-    else {
-        return not_asked();
-    };
-    let cli_words::Block::Of(check) = cli_asked::check(Program::Bureau, after(i, 2)) else {
-        return not_asked();
-    };
-    let cli_words::Number::Is(generation) = cli_asked::generation(Program::Bureau, after(i, 3))
-    else {
-        return not_asked();
-    };
-    let parts = desk::Parts {
+// A transport key's words, PART1 PART2 CHECK GENERATION.
+fn asked(
+    rt: &HostRuntime,
+    part1: &[u8],
+    part2: &[u8],
+    check: &[u8],
+    generation: &[u8],
+) -> Result<desk::Parts, Told> {
+    let p = Program::Bureau;
+    let part1 = cli_asked::hidden_key(rt, p, part1, b"PART1")?;
+    let part2 = cli_asked::hidden_key(rt, p, part2, b"PART2")?;
+    let check = cli_asked::check(rt, p, check)?;
+    let generation = cli_asked::generation(rt, p, generation)?;
+    Ok(desk::Parts {
         part1,
         part2,
         check,
         generation,
-    };
-    KeyWords { good: true, parts }
+    })
 }
 
-fn after(i: usize, k: usize) -> usize {
-    std::num::wrapping_add_usize(i, k)
+fn ok(rt: &HostRuntime, d: &[u8]) -> io::Result<()> {
+    say::out(rt, b"ok\n")?;
+    bureau_show::keys(rt, &bureau_file::held(d))
 }
 
 // Saves the desk that a served call left, and answers with the check values, which are compared by telephone.
-fn saved(path: &[u8], d: &[u8], h: Held) -> Status {
-    if !cli_held::is_saved(Program::Bureau, path, d, h) {
-        return Status::Trouble;
-    }
-    let is_written = say::out(b"ok\n") && bureau_show::keys(bureau_file::held(d));
+fn saved(rt: &HostRuntime, path: &str, d: &[u8], h: &Held) -> Result<Status, Told> {
+    cli_held::is_saved(rt, Program::Bureau, path, d, h)?;
     status::served_if(say::is_said(
+        rt,
         Program::Bureau,
-        is_written,
+        ok(rt, d),
         b"the desk is saved, and its check values can't be written ('show' tells them): ",
     ))
 }
 
 // ---- open
 
-pub fn open() -> Status {
-    if !bureau_help::are_as_many(1, 14, 14) {
-        return Status::Trouble;
-    }
-    if !options::are_taken(Program::Bureau, b"") {
-        return Status::Trouble;
-    }
-    let mut path = io::buffer();
-    let n = cli_names::of_kept(Program::Bureau, 2, b"DESK", &mut path);
-    if n == 0 {
-        return Status::Trouble;
-    }
-    open_words(&path[..n])
+pub fn open(rt: &HostRuntime, words: &Words) -> Result<Status, Told> {
+    bureau_help::are_as_many(rt, words, 1, 14, 14)?;
+    words.are_taken(rt, Program::Bureau, b"")?;
+    let path = cli_names::of_kept(rt, Program::Bureau, words.word(2), b"DESK")?;
+    open_words(rt, words, path.as_str())
 }
 
-fn open_words(path: &[u8]) -> Status {
-    let own = cli_asked::who(Program::Bureau, 3, b"IDENTITY", b"QUALIFIER");
-    if !own.good {
-        return Status::Trouble;
-    }
-    let bank = cli_asked::who(Program::Bureau, 5, b"BANK", b"BANKQUALIFIER");
-    if !bank.good {
-        return Status::Trouble;
-    }
-    let software = cli_asked::software(Program::Bureau, 7);
-    if !software.good {
-        return Status::Trouble;
-    }
-    let name = software.name;
-    let a = asked(8);
-    if !a.good {
-        return Status::Trouble;
-    }
-    let parts = a.parts;
-    let us = own.who;
-    let them = bank.who;
-    let given = desk::open(us, them, parts);
-    open_with(path, given, us, them, name)
+fn open_words(rt: &HostRuntime, words: &Words, path: &str) -> Result<Status, Told> {
+    let p = Program::Bureau;
+    let own = cli_asked::who(
+        rt,
+        p,
+        words.word(3),
+        words.word(4),
+        b"IDENTITY",
+        b"QUALIFIER",
+    )?;
+    let bank = cli_asked::who(
+        rt,
+        p,
+        words.word(5),
+        words.word(6),
+        b"BANK",
+        b"BANKQUALIFIER",
+    )?;
+    let software = cli_asked::software(rt, p, words.word(7))?;
+    let parts = asked(
+        rt,
+        words.word(8),
+        words.word(9),
+        words.word(10),
+        words.word(11),
+    )?;
+    let given = desk::open(own, bank, parts);
+    let key = cli_asked::hidden_key(rt, p, words.word(12), b"K")?;
+    let seed = cli_asked::hidden_key(rt, p, words.word(13), b"V")?;
+    let maker = keys::KeyMaker { key, seed };
+    open_with(rt, path, &given, maker, &own, &bank, software)
 }
 
-// K and V, and the limits of what was typed.
+// The limits of what was typed.
 fn open_with(
-    path: &[u8],
-    given: desk::Given,
-    own: [u8; 25],
-    bank: [u8; 25],
+    rt: &HostRuntime,
+    path: &str,
+    given: &desk::Given,
+    maker: keys::KeyMaker,
+    own: &[u8; 25],
+    bank: &[u8; 25],
     software: [u8; 16],
-) -> Status {
-    let cli_words::Block::Of(key) = cli_asked::hidden_key(Program::Bureau, 12, b"K") else {
-        return Status::Trouble;
-    };
-    let cli_words::Block::Of(seed) = cli_asked::hidden_key(Program::Bureau, 13, b"V") else {
-        return Status::Trouble;
-    };
+) -> Result<Status, Told> {
     if given.refusal == 11 {
-        return refused_names(own, bank);
+        return refused_names(rt, own, bank);
     }
     if given.refusal != 0 {
-        return say::answer(Program::Bureau, given.refusal);
+        return say::answer(rt, Program::Bureau, given.refusal);
     }
-    if !is_software(software) {
-        return cli_asked::answer_software(Program::Bureau);
+    if !customer::is_sound_name(&software) {
+        return cli_asked::answer_software(rt, Program::Bureau);
     }
-    let held = given.held;
-    let maker = keys::KeyMaker { key, seed };
-    open_new(path, held, maker, software)
+    open_new(rt, path, given.held, maker, software)
 }
 
-fn is_software(name: [u8; 16]) -> bool {
-    customer::is_sound_name(&name)
+fn refused_names(rt: &HostRuntime, own: &[u8; 25], bank: &[u8; 25]) -> Result<Status, Told> {
+    if !customer::is_sound_who(own) {
+        return cli_asked::answer_who(rt, Program::Bureau, b"IDENTITY", b"QUALIFIER", own);
+    }
+    cli_asked::answer_who(rt, Program::Bureau, b"BANK", b"BANKQUALIFIER", bank)
 }
 
-fn refused_names(own: [u8; 25], bank: [u8; 25]) -> Status {
-    if !customer::is_sound_who(&own) {
-        return cli_asked::answer_who(Program::Bureau, b"IDENTITY", b"QUALIFIER", own);
-    }
-    cli_asked::answer_who(Program::Bureau, b"BANK", b"BANKQUALIFIER", bank)
-}
-
-fn open_new(path: &[u8], held: desk::Held, maker: keys::KeyMaker, software: [u8; 16]) -> Status {
-    let h = cli_held::take(Program::Bureau, path);
-    let r = h.run;
-    if r.process == 0 {
-        return Status::Trouble;
-    }
-    if !cli_table::is_free(Program::Bureau, path) {
-        cli_held::release(Program::Bureau, path, h);
-        return Status::Trouble;
+fn open_new(
+    rt: &HostRuntime,
+    path: &str,
+    held: desk::Held,
+    maker: keys::KeyMaker,
+    software: [u8; 16],
+) -> Result<Status, Told> {
+    let h = cli_held::take(rt, Program::Bureau, path)?;
+    if let Err(told) = cli_table::is_free(rt, Program::Bureau, path) {
+        cli_held::release(rt, Program::Bureau, path, &h);
+        return Err(told);
     }
     let mut d = [0u8; 16640];
     bureau_file::begin(&mut d, held, maker, software);
-    saved(path, &d, h)
+    saved(rt, path, &d, &h)
 }
 
 // ---- key
 
-pub fn key() -> Status {
-    if !bureau_help::are_as_many(2, 7, 7) {
-        return Status::Trouble;
-    }
-    if !options::are_taken(Program::Bureau, b"") {
-        return Status::Trouble;
-    }
-    let mut path = io::buffer();
-    let n = cli_names::of_kept(Program::Bureau, 2, b"DESK", &mut path);
-    if n == 0 {
-        return Status::Trouble;
-    }
-    let a = asked(3);
-    if !a.good {
-        return Status::Trouble;
-    }
-    let parts = a.parts;
-    enter(&path[..n], parts)
+pub fn key(rt: &HostRuntime, words: &Words) -> Result<Status, Told> {
+    bureau_help::are_as_many(rt, words, 2, 7, 7)?;
+    words.are_taken(rt, Program::Bureau, b"")?;
+    let path = cli_names::of_kept(rt, Program::Bureau, words.word(2), b"DESK")?;
+    let parts = asked(
+        rt,
+        words.word(3),
+        words.word(4),
+        words.word(5),
+        words.word(6),
+    )?;
+    enter(rt, path.as_str(), parts)
 }
 
-fn enter(path: &[u8], parts: desk::Parts) -> Status {
-    let h = cli_held::take(Program::Bureau, path);
-    let r = h.run;
-    if r.process == 0 {
-        return Status::Trouble;
-    }
+fn enter(rt: &HostRuntime, path: &str, parts: desk::Parts) -> Result<Status, Told> {
+    let h = cli_held::take(rt, Program::Bureau, path)?;
     let mut d = [0u8; 16640];
-    if !bureau_show::is_loaded(path, &mut d) {
-        cli_held::release(Program::Bureau, path, h);
-        return Status::Trouble;
+    if let Err(told) = bureau_show::is_loaded(rt, path, &mut d) {
+        cli_held::release(rt, Program::Bureau, path, &h);
+        return Err(told);
     }
     let given = desk::enter(bureau_file::held(&d), parts);
     if given.refusal != 0 {
-        cli_held::release(Program::Bureau, path, h);
-        return say::answer(Program::Bureau, given.refusal);
+        cli_held::release(rt, Program::Bureau, path, &h);
+        return say::answer(rt, Program::Bureau, given.refusal);
     }
-    let held = given.held;
-    bureau_file::set_held(&mut d, held);
-    saved(path, &d, h)
+    bureau_file::set_held(&mut d, given.held);
+    saved(rt, path, &d, &h)
 }

@@ -2,91 +2,99 @@
 use crate::{Order, stamps};
 use bureau_records::{Lines, Way};
 use cli_files::Seen;
+use cli_terminal::options::Words;
 use cli_terminal::program::Program;
 use cli_terminal::say;
-use libc::STDERR_FILENO;
+use cli_terminal::status::Told;
+use size_limit::Growing;
+use std::fs::File;
+use std::io::{Read, Write};
 
-// How far a file is written: without trouble that was told or a refusal to answer, so many bytes of it.
-#[derive(Drop)]
-pub struct Written {
-    pub good: bool,
-    pub refusal: u32,
-    pub bytes: u64,
+// Why a file is not made: trouble that was told, or a refusal to answer.
+#[derive(Clone, Copy)]
+pub enum Stopped {
+    Told,
+    Refused(u32),
 }
 
-fn stopped() -> Written {
-    Written {
-        good: false,
-        refusal: 0,
-        bytes: 0,
-    }
-}
-
-fn refused(refusal: u32) -> Written {
-    Written {
-        good: false,
-        refusal,
-        bytes: 0,
+impl From<Told> for Stopped {
+    fn from(_told: Told) -> Stopped {
+        Stopped::Told
     }
 }
 
 // ---- writing
 
-// Bytes more, if the file stays within its limit.
-fn put(out: i32, file: &[u8], w: Written, s: &[u8]) -> Written {
-    let bytes = std::num::wrapping_add_u64(w.bytes, s.len() as u64);
+// Bytes more, if the file stays within its limit; how many it has then.
+fn put(
+    rt: &HostRuntime,
+    out: &mut Growing,
+    file: &str,
+    before: u64,
+    s: &[u8],
+) -> Result<u64, Stopped> {
+    let bytes = before.wrapping_add(s.len() as u64);
     if 4294967295 < bytes {
         cli_beside::tell(
+            rt,
             Program::Bureau,
             file,
             b"nothing was changed: the file would have more than 4294967295 bytes: put fewer RECORDS into it\n",
         );
-        return stopped();
+        return Err(Stopped::Told);
     }
-    if !io::write_all(out, s) {
+    if let Err(e) = out.write_all(s) {
         cli_beside::trouble_new(
+            rt,
             Program::Bureau,
             b"nothing was changed: can't write the $w",
             file,
+            &e,
         );
-        return stopped();
+        return Err(Stopped::Told);
     }
-    say::progress(w.bytes, bytes);
-    Written {
-        good: true,
-        refusal: 0,
-        bytes,
-    }
+    say::progress(rt, before, bytes);
+    Ok(bytes)
 }
 
 // A message and the end of its line.
-fn put_line(out: i32, file: &[u8], w: Written, s: &[u8], crlf: bool) -> Written {
-    let x = put(out, file, w, s);
-    if !x.good {
-        return x;
-    }
+fn put_line(
+    rt: &HostRuntime,
+    out: &mut Growing,
+    file: &str,
+    before: u64,
+    s: &[u8],
+    crlf: bool,
+) -> Result<u64, Stopped> {
+    let bytes = put(rt, out, file, before, s)?;
     if crlf {
-        return put(out, file, x, b"\r\n");
+        return put(rt, out, file, bytes, b"\r\n");
     }
-    put(out, file, x, b"\n")
+    put(rt, out, file, bytes, b"\n")
 }
 
 // ---- the file
 
 // The file's number: one more than were made.
 fn number(d: &[u8]) -> u64 {
-    std::num::wrapping_add_u64(bureau_file::files(d), 1)
+    bureau_file::files(d).wrapping_add(1)
 }
 
 // The request goes into the last message: the bank would read what comes after it under another key.
-fn request_of(o: Order, k: usize) -> u8 {
+fn request_of(o: &Order, k: usize) -> u8 {
     if k == o.batches {
         return o.request;
     }
     b'0'
 }
 
-fn put_esi(out: i32, file: &[u8], o: Order, d: &mut [u8]) -> Written {
+fn put_esi(
+    rt: &HostRuntime,
+    out: &mut Growing,
+    file: &str,
+    o: &Order,
+    d: &mut [u8],
+) -> Result<u64, Stopped> {
     let m = build::build_esi(
         bureau_file::held(d),
         bureau_file::software(d),
@@ -94,48 +102,35 @@ fn put_esi(out: i32, file: &[u8], o: Order, d: &mut [u8]) -> Written {
         request_of(o, 0),
     );
     if m.refusal != 0 {
-        return refused(m.refusal);
+        return Err(Stopped::Refused(m.refusal));
     }
-    let sent = m.sent;
-    let text = m.text;
-    bureau_file::add(d, sent, number(d), bureau_file::ESI);
-    let begun = Written {
-        good: true,
-        refusal: 0,
-        bytes: 0,
-    };
-    put_line(out, file, begun, &text, o.crlf)
+    let file_number = number(d);
+    bureau_file::add(d, m.sent, file_number, bureau_file::ESI);
+    put_line(rt, out, file, 0, &m.text, o.crlf)
 }
 
 // All of the file; what was sent, the key maker and the last stamp go into the desk.
-pub fn fill(out: i32, file: &[u8], o: Order, d: &mut [u8]) -> Written {
-    let esi = put_esi(out, file, o, d);
-    let all = put_batches(out, file, o, d, esi);
-    finished(o, d, all)
-}
-
-fn put_batches(out: i32, file: &[u8], o: Order, d: &mut [u8], esi: Written) -> Written {
-    let n = o.batches;
-    let mut w = esi;
-    let mut k = 0;
-    while k < n {
-        if !w.good {
-            return w;
-        }
-        k += 1;
-        w = put_batch(out, file, o, d, w, k);
+pub fn fill(
+    rt: &HostRuntime,
+    words: &Words,
+    out: &mut Growing,
+    file: &str,
+    o: &Order,
+    d: &mut [u8],
+) -> Result<u64, Stopped> {
+    let mut bytes = put_esi(rt, out, file, o, d)?;
+    for k in 0..o.batches {
+        bytes = put_batch(rt, words, out, file, o, d, bytes, k + 1)?;
     }
-    w
+    finish(o, d);
+    Ok(bytes)
 }
 
 // The file that is written is one more, and its last stamp the last of all.
-fn finished(o: Order, d: &mut [u8], w: Written) -> Written {
-    if !w.good {
-        return w;
-    }
-    let last = stamps::stamp(o.day, o.time, std::num::wrapping_add_usize(o.batches, 1));
-    bureau_file::set_file(d, number(d), last);
-    w
+fn finish(o: &Order, d: &mut [u8]) {
+    let last = stamps::stamp(o.day, o.time, o.batches.wrapping_add(1));
+    let file_number = number(d);
+    bureau_file::set_file(d, file_number, last);
 }
 
 // ---- a batch
@@ -154,9 +149,9 @@ fn digested(skh: bool) -> digest::Method {
     digest::Method::Ske
 }
 
-fn given(o: Order, software: [u8; 16], k: usize) -> build::Given {
-    let stamp = stamps::stamp(o.day, o.time, std::num::wrapping_add_usize(k, 1));
+fn given(o: &Order, software: [u8; 16], k: usize) -> build::Given {
     let method = method(o.skh);
+    let stamp = stamps::stamp(o.day, o.time, k.wrapping_add(1));
     build::Given {
         software,
         method,
@@ -166,248 +161,238 @@ fn given(o: Order, software: [u8; 16], k: usize) -> build::Given {
 }
 
 // Batch k: its SUO, with a one-time key of its own.
-fn put_batch(out: i32, file: &[u8], o: Order, d: &mut [u8], w: Written, k: usize) -> Written {
-    let clock = keys::clock_value(o.clock, std::num::wrapping_sub_u64(k as u64, 1));
+fn put_batch(
+    rt: &HostRuntime,
+    words: &Words,
+    out: &mut Growing,
+    file: &str,
+    o: &Order,
+    d: &mut [u8],
+    before: u64,
+    k: usize,
+) -> Result<u64, Stopped> {
+    let clock = keys::clock_value(o.clock, (k as u64).wrapping_sub(1));
     let m = build::make_suo(
         bureau_file::held(d),
         bureau_file::maker(d),
         clock,
         given(o, bureau_file::software(d), k),
     );
-    let built = m.built;
-    if built.refusal != 0 {
-        return refused(built.refusal);
+    if m.built.refusal != 0 {
+        return Err(Stopped::Refused(m.built.refusal));
     }
-    let maker = m.maker;
-    bureau_file::set_maker(d, maker);
-    let b = built.batch;
-    let suo = b.suo;
-    let x = put_suo(out, file, w, suo, o.crlf);
-    if !x.good {
-        return x;
-    }
-    put_records(out, file, o, d, x, k, b)
-}
-
-fn put_suo(out: i32, file: &[u8], w: Written, suo: [u8; 128], crlf: bool) -> Written {
-    put_line(out, file, w, &suo, crlf)
+    bureau_file::set_maker(d, m.maker);
+    let b = m.built.batch;
+    let bytes = put_line(rt, out, file, before, &b.suo, o.crlf)?;
+    put_records(rt, words, out, file, o, d, bytes, k, b)
 }
 
 // The records and the VAR.
 fn put_records(
-    out: i32,
-    file: &[u8],
-    o: Order,
+    rt: &HostRuntime,
+    words: &Words,
+    out: &mut Growing,
+    file: &str,
+    o: &Order,
     d: &mut [u8],
-    w: Written,
+    before: u64,
     k: usize,
     b: build::Batch,
-) -> Written {
-    let mut path = io::buffer();
-    let n = cli_names::of(
-        Program::Bureau,
-        std::num::wrapping_add_usize(k, 7),
-        b"RECORDS",
-        &mut path,
-    );
-    if n == 0 {
-        return stopped();
-    }
-    let input = cli_beside::open_told(Program::Bureau, b"can't open the records", &path[..n]);
-    if input < 0 {
-        return stopped();
-    }
-    let desk = o.desk;
-    if !is_other(desk, input, out) {
-        libc::close(input);
-        return stopped();
-    }
-    let once = b.once;
-    let copied = copy(
-        input,
-        &path[..n],
-        out,
-        file,
-        w,
-        bureau_records::way_of(once, digested(o.skh), o.crlf),
-    );
-    libc::close(input);
-    let x = copied.written;
-    if !x.good {
-        return x;
-    }
+) -> Result<u64, Stopped> {
+    let word = words.word(k.wrapping_add(7));
+    let path = cli_names::of(rt, Program::Bureau, word, b"RECORDS")?;
+    let path = path.as_str();
+    let mut input = cli_beside::open_told(rt, Program::Bureau, b"can't open the records", path)?;
+    is_other(rt, o.desk, &input, out.file())?;
+    let way = bureau_records::way_of(b.once, digested(o.skh), o.crlf);
+    let copied = copy(rt, &mut input, path, out, file, before, way)?;
     let suo = b.suo;
-    let working = b.working;
-    let state = copied.state;
     let whole = build::Batch {
         suo,
-        once,
-        working,
-        state,
+        once: b.once,
+        working: b.working,
+        state: copied.state,
     };
-    put_var(out, file, o, d, x, k, whole)
+    put_var(rt, out, file, o, d, copied.bytes, k, whole)
+}
+
+// Whether two files that were seen are the same one.
+fn are_same(a: Option<Seen>, b: Option<Seen>) -> bool {
+    match (a, b) {
+        (Some(a), Some(b)) => cli_files::is_same(&a, &b),
+        _ => false,
+    }
 }
 
 // Whether records are a file of their own: the desk holds keys, and the file that is being written would never end.
-fn is_other(desk: Seen, input: i32, out: i32) -> bool {
-    let seen = cli_files::of_open(input);
-    if cli_files::is_same(seen, desk) || cli_files::is_same(seen, cli_files::of_open(out)) {
+fn is_other(rt: &HostRuntime, desk: Option<Seen>, input: &File, out: &File) -> Result<(), Told> {
+    let seen = cli_files::of_open(input).ok();
+    if are_same(seen, desk) || are_same(seen, cli_files::of_open(out).ok()) {
         say::expected(
+            rt,
             Program::Bureau,
             b"RECORDS",
             b"another file than DESK and FILE; nothing was changed",
         );
-        return false;
+        return Err(Told);
     }
-    true
+    Ok(())
 }
 
 fn put_var(
-    out: i32,
-    file: &[u8],
-    o: Order,
+    rt: &HostRuntime,
+    out: &mut Growing,
+    file: &str,
+    o: &Order,
     d: &mut [u8],
-    w: Written,
+    before: u64,
     k: usize,
     b: build::Batch,
-) -> Written {
+) -> Result<u64, Stopped> {
     let m = build::build_var(b, request_of(o, k));
     if m.refusal != 0 {
-        return refused(m.refusal);
+        return Err(Stopped::Refused(m.refusal));
     }
-    let sent = m.sent;
-    let text = m.text;
-    bureau_file::add(d, sent, number(d), bureau_file::BATCH);
-    put_line(out, file, w, &text, o.crlf)
+    let file_number = number(d);
+    bureau_file::add(d, m.sent, file_number, bureau_file::BATCH);
+    put_line(rt, out, file, before, &m.text, o.crlf)
 }
 
 // ---- the records
 
-// How far records are copied, and the digest of them all.
-#[derive(Drop)]
+// How many bytes the file has with a file of records, and the digest of them all.
+#[derive(Clone, Copy)]
 struct Copied {
-    written: Written,
+    bytes: u64,
     state: digest::State,
 }
 
-// A file of records to its end. A proved loop has to end and nothing says that a file does, so it counts turns down from a number that no
-// run uses up.
-fn copy(input: i32, path: &[u8], out: i32, file: &[u8], w: Written, way: Way) -> Copied {
-    let mut lines = bureau_records::begin();
-    let mut now = w;
-    let mut turns = u64::MAX;
-    while turns > 0 {
-        let t = turn(input, path, out, file, now, way, lines);
-        lines = t.lines;
-        now = t.written;
-        if t.is_ended {
-            return Copied {
-                written: now,
-                state: bureau_records::state_of(lines),
-            };
+// A file of records to its end. A proved loop has to end and nothing says that a file does, so it counts turns up to a number that no run
+// reaches.
+fn copy(
+    rt: &HostRuntime,
+    input: &mut File,
+    path: &str,
+    out: &mut Growing,
+    file: &str,
+    before: u64,
+    way: Way,
+) -> Result<Copied, Stopped> {
+    let mut now = Stand {
+        lines: bureau_records::begin(),
+        bytes: before,
+        is_ended: false,
+    };
+    for _ in 0..u64::MAX {
+        now = turn(rt, input, path, out, file, now.bytes, way, now.lines)?;
+        if now.is_ended {
+            return Ok(Copied {
+                bytes: now.bytes,
+                state: bureau_records::state_of(now.lines),
+            });
         }
-        turns -= 1;
     }
-    Copied {
-        written: stopped(),
-        state: digest::start(),
-    }
+    Err(Stopped::Told)
 }
 
-// One turn of it.
-#[derive(Drop)]
+// How far records are copied.
+#[derive(Clone, Copy)]
 struct Stand {
     lines: Lines,
-    written: Written,
+    bytes: u64,
     is_ended: bool,
 }
 
 // One read of the records, or their end.
 fn turn(
-    input: i32,
-    path: &[u8],
-    out: i32,
-    file: &[u8],
-    w: Written,
+    rt: &HostRuntime,
+    input: &mut File,
+    path: &str,
+    out: &mut Growing,
+    file: &str,
+    before: u64,
     way: Way,
     lines: Lines,
-) -> Stand {
+) -> Result<Stand, Stopped> {
     let mut part = [0u8; 16384];
-    let mut room = io::large_buffer();
-    let got = libc::read(input, &mut part);
-    if got < 0 {
-        say::trouble(
-            Program::Bureau,
-            b"nothing was changed: can't read the records",
-            path,
-        );
-        return Stand {
-            lines,
-            written: stopped(),
-            is_ended: true,
-        };
-    }
-    let n = io::count(got, &part);
+    let mut room = [0u8; 65536];
+    let n = match input.read(&mut part) {
+        Ok(n) => n,
+        Err(e) => {
+            say::trouble(
+                rt,
+                Program::Bureau,
+                b"nothing was changed: can't read the records",
+                path,
+                &e,
+            );
+            return Err(Stopped::Told);
+        }
+    };
+    let next = if n == 0 {
+        bureau_records::finish(way, lines, &mut room)
+    } else {
+        bureau_records::next(way, lines, &part[..n], &mut room)
+    };
+    let bytes = put_lines(rt, path, out, file, before, &next, &room)?;
     if n == 0 {
-        let last = bureau_records::finish(way, lines, &mut room);
-        let written = put_lines(path, out, file, w, last, &room);
-        return Stand {
-            lines: last,
-            written: with_characters(path, written, last),
-            is_ended: true,
-        };
+        with_characters(rt, path, &next)?;
     }
-    let next = bureau_records::next(way, lines, &part[..n], &mut room);
-    let written = put_lines(path, out, file, w, next, &room);
-    Stand {
+    Ok(Stand {
         lines: next,
-        written,
-        is_ended: !written.good,
-    }
+        bytes,
+        is_ended: n == 0,
+    })
 }
 
 // What a part left in the room, or what is the matter with it.
-fn put_lines(path: &[u8], out: i32, file: &[u8], w: Written, l: Lines, room: &[u8]) -> Written {
+fn put_lines(
+    rt: &HostRuntime,
+    path: &str,
+    out: &mut Growing,
+    file: &str,
+    before: u64,
+    l: &Lines,
+    room: &[u8],
+) -> Result<u64, Stopped> {
     if l.fault != 0 {
-        tell_fault(path, l.line, l.fault);
-        return stopped();
+        tell_fault(rt, path, l.line, l.fault);
+        return Err(Stopped::Told);
     }
-    let n = l.filled;
-    if room.len() < n {
-        tell_fault(path, l.line, bureau_records::NO_ROOM);
-        return stopped();
-    }
-    put(out, file, w, &room[0..n])
+    let Some(filled) = room.get(..l.filled) else {
+        tell_fault(rt, path, l.line, bureau_records::NO_ROOM);
+        return Err(Stopped::Told);
+    };
+    put(rt, out, file, before, filled)
 }
 
 // Without a character there is no digest, and the bank refuses the batch.
-fn with_characters(path: &[u8], w: Written, l: Lines) -> Written {
-    if !w.good {
-        return w;
-    }
-    let s = bureau_records::state_of(l);
-    if s.n != 0 {
-        return w;
+fn with_characters(rt: &HostRuntime, path: &str, l: &Lines) -> Result<(), Told> {
+    if bureau_records::state_of(*l).n != 0 {
+        return Ok(());
     }
     cli_beside::tell(
+        rt,
         Program::Bureau,
         path,
         b"no character in it that is digested: expected records; nothing was changed\n",
     );
-    stopped()
+    Err(Told)
 }
 
 // The faults are those of `bureau_records`.
-fn tell_fault(path: &[u8], line: u64, fault: u32) {
-    cli_beside::tell(Program::Bureau, path, b"line ");
-    io::print_decimal(STDERR_FILENO, line);
+fn tell_fault(rt: &HostRuntime, path: &str, line: u64, fault: u32) {
+    cli_beside::tell(rt, Program::Bureau, path, b"line ");
+    let _ = eprint!(rt; "{line}");
     match fault {
         1 => say::err(
+            rt,
             b" begins like a message: expected records that don't begin with >>ESI, >>SUO or >>VAR; nothing was changed\n",
         ),
         2 => say::err(
+            rt,
             b" ends in a CR of its own: expected records that LF or CR LF ends; nothing was changed\n",
         ),
-        _ => say::err(b" has no room; nothing was changed\n"),
+        _ => say::err(rt, b" has no room; nothing was changed\n"),
     }
 }

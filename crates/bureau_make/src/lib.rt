@@ -1,21 +1,27 @@
 // The command make: a file to send, and what was sent kept in the desk. The order of writes is that of the bank's `receive`: the file beside
 // its name, flushed; the desk; the file's name; then what is said.
+#![tactic(auto)]
+
 mod batch;
 mod stamps;
 
+use batch::Stopped;
 use bureau_file::Forgotten;
 use cli_files::Seen;
-use cli_run::Run;
+use cli_held::Held;
+use cli_terminal::options::Words;
 use cli_terminal::program::Program;
-use cli_terminal::status::Status;
-use cli_terminal::{options, say, status};
-use libc::STDERR_FILENO;
+use cli_terminal::status::{Status, Told};
+use cli_terminal::{say, status};
+use size_limit::Growing;
+use std::fs::File;
+use std::io;
 
 // What is asked for: the stamps' date and time, the clock value, how the batches are sent, the request, and how many batches there are; and
 // the desk's file, which is never sent.
-#[derive(Drop)]
+#[derive(Clone, Copy)]
 pub struct Order {
-    pub desk: Seen,
+    pub desk: Option<Seen>,
     pub day: u32,
     pub time: u32,
     pub clock: u64,
@@ -26,264 +32,243 @@ pub struct Order {
     pub batches: usize,
 }
 
-// How a run ended: with trouble that was told, with a refusal to answer, or with a file of so many bytes.
-#[derive(Drop)]
-pub struct Done {
-    is_saved: bool,
-    refusal: u32,
+// A file that was made: its number, and of how many bytes it is.
+#[derive(Clone, Copy)]
+struct Done {
     number: u64,
     bytes: u64,
     forgotten: Forgotten,
 }
 
-fn none() -> Forgotten {
-    Forgotten {
-        count: 0,
-        first: 0,
-        last: 0,
-    }
-}
-
-fn ended(refusal: u32) -> Done {
-    Done {
-        is_saved: false,
-        refusal,
-        number: 0,
-        bytes: 0,
-        forgotten: none(),
-    }
-}
-
 // ---- words
 
-pub fn make() -> Status {
-    if !bureau_help::are_as_many(3, 8, 71) {
-        return Status::Trouble;
-    }
-    if !options::are_taken(Program::Bureau, b"--ask --end --crlf --area-a ") {
-        return Status::Trouble;
-    }
-    let mut path = io::buffer();
-    let n = cli_names::of_kept(Program::Bureau, 2, b"DESK", &mut path);
-    if n == 0 {
-        return Status::Trouble;
-    }
-    make_words(&path[..n])
+pub fn make(rt: &HostRuntime, words: &Words) -> Result<Status, Told> {
+    bureau_help::are_as_many(rt, words, 3, 8, 71)?;
+    words.are_taken(rt, Program::Bureau, b"--ask --end --crlf --area-a ")?;
+    let path = cli_names::of_kept(rt, Program::Bureau, words.word(2), b"DESK")?;
+    make_words(rt, words, path.as_str())
 }
 
-// What the bank is asked for; 0 for two things at once.
-fn request() -> u8 {
-    let asks = options::is_given(b"--ask");
-    if options::is_given(b"--end") {
-        if asks {
-            say::expected(Program::Bureau, b"--ask, --end", b"one of the two");
-            return 0;
-        }
-        return b'2';
+// What the bank is asked for, which can't be two things at once.
+fn request(rt: &HostRuntime, words: &Words) -> Result<u8, Told> {
+    let asks = words.is_given(b"--ask");
+    let ends = words.is_given(b"--end");
+    if asks && ends {
+        say::expected(rt, Program::Bureau, b"--ask, --end", b"one of the two");
+        return Err(Told);
+    }
+    if ends {
+        return Ok(b'2');
     }
     if asks {
-        return b'1';
+        return Ok(b'1');
     }
-    b'0'
+    Ok(b'0')
 }
 
-fn area() -> u8 {
-    if options::is_given(b"--area-a") {
+fn area(words: &Words) -> u8 {
+    if words.is_given(b"--area-a") {
         return b'A';
     }
     b'S'
 }
 
-// Whether the method is SKH: yes or no, or neither.
-fn is_skh() -> cli_words::Number {
-    let mut word = io::buffer();
-    let n = options::word(6, &mut word);
-    if text::same_bytes(&word[..n], b"SKH") {
-        return cli_words::Number::Is(1);
+// Whether the method is SKH.
+fn is_skh(rt: &HostRuntime, word: &[u8]) -> Result<bool, Told> {
+    if text::same_bytes(word, b"SKH") {
+        return Ok(true);
     }
-    if text::same_bytes(&word[..n], b"SKE") {
-        return cli_words::Number::Is(0);
+    if text::same_bytes(word, b"SKE") {
+        return Ok(false);
     }
-    say::expected(Program::Bureau, b"METHOD", b"SKH or SKE");
-    cli_words::Number::Bad
+    say::expected(rt, Program::Bureau, b"METHOD", b"SKH or SKE");
+    Err(Told)
 }
 
-fn make_words(path: &[u8]) -> Status {
-    let cli_words::Number::Is(day) = cli_asked::date(Program::Bureau, 3) else {
-        return Status::Trouble;
-    };
-    let cli_words::Number::Is(time) = cli_asked::digits(
-        Program::Bureau,
-        4,
-        6,
-        6,
-        b"TIME",
-        b"six digits hhmmss",
-    ) else {
-        return Status::Trouble;
-    };
-    let cli_words::Block::Of(clock) = cli_asked::key(Program::Bureau, 5, b"CLOCK") else {
-        return Status::Trouble;
-    };
-    let cli_words::Number::Is(skh) = is_skh() else {
-        return Status::Trouble;
-    };
-    let request = request();
-    if request == 0 {
-        return Status::Trouble;
-    }
+fn make_words(rt: &HostRuntime, words: &Words, path: &str) -> Result<Status, Told> {
+    let p = Program::Bureau;
+    let day = cli_asked::date(rt, p, words.word(3))?;
+    let time = cli_asked::digits(rt, p, words.word(4), 6, 6, b"TIME", b"six digits hhmmss")?;
+    let clock = cli_asked::key(rt, p, words.word(5), b"CLOCK")?;
+    let skh = is_skh(rt, words.word(6))?;
+    let request = request(rt, words)?;
     let o = Order {
-        desk: cli_files::of_name(path),
+        desk: cli_files::of_name(rt, path).ok(),
         day,
         time,
         clock,
-        skh: skh == 1,
-        crlf: options::is_given(b"--crlf"),
-        area: area(),
+        skh,
+        crlf: words.is_given(b"--crlf"),
+        area: area(words),
         request,
-        batches: std::num::wrapping_sub_usize(options::count(), 8),
+        batches: words.count().wrapping_sub(8),
     };
-    make_into(path, o)
+    make_into(rt, words, path, &o)
 }
 
-fn make_into(path: &[u8], o: Order) -> Status {
-    let mut file = io::buffer();
-    let n = cli_names::of_made(Program::Bureau, 7, b"FILE", &mut file);
-    if n == 0 {
-        return Status::Trouble;
-    }
-    make_locked(path, &file[..n], o)
+fn make_into(rt: &HostRuntime, words: &Words, path: &str, o: &Order) -> Result<Status, Told> {
+    let file = cli_names::of_made(rt, Program::Bureau, words.word(7), b"FILE")?;
+    make_locked(rt, words, path, file.as_str(), o)
 }
 
 // ---- files
 
-fn make_locked(path: &[u8], file: &[u8], o: Order) -> Status {
-    let h = cli_held::take(Program::Bureau, path);
-    let r = h.run;
-    if r.process == 0 {
-        return Status::Trouble;
-    }
-    let seen = h.seen;
-    let done = under_lock(path, file, r, seen, o);
-    cli_held::release(Program::Bureau, path, h);
-    answered(done, o)
+fn make_locked(
+    rt: &HostRuntime,
+    words: &Words,
+    path: &str,
+    file: &str,
+    o: &Order,
+) -> Result<Status, Told> {
+    let h = cli_held::take(rt, Program::Bureau, path)?;
+    let done = under_lock(rt, words, path, file, &h, o);
+    cli_held::release(rt, Program::Bureau, path, &h);
+    answered(rt, done, o)
 }
 
 // Loads the desk and looks at the stamps.
-fn under_lock(path: &[u8], file: &[u8], r: Run, seen: Seen, o: Order) -> Done {
+fn under_lock(
+    rt: &HostRuntime,
+    words: &Words,
+    path: &str,
+    file: &str,
+    h: &Held,
+    o: &Order,
+) -> Result<Done, Stopped> {
     let mut d = [0u8; 16640];
-    if !bureau_show::is_loaded(path, &mut d) {
-        return ended(0);
-    }
+    bureau_show::is_loaded(rt, path, &mut d)?;
     if !stamps::are_real(o.day, o.time) {
-        return ended(13);
+        return Err(Stopped::Refused(13));
     }
-    if !stamps::are_later(bureau_file::last_stamp(&d), o.day, o.time) {
-        return ended(0);
-    }
-    make_new(path, file, r, seen, o, &mut d)
+    stamps::are_later(rt, bureau_file::last_stamp(&d), o.day, o.time)?;
+    make_new(rt, words, path, file, h, o, &mut d)
 }
 
 // Makes DESK.new: from here on the names that this run may not give to its file are taken.
-fn make_new(path: &[u8], file: &[u8], r: Run, seen: Seen, o: Order, d: &mut [u8]) -> Done {
-    let kept = cli_table::begin(Program::Bureau, path);
-    if kept < 0 {
-        return ended(0);
+fn make_new(
+    rt: &HostRuntime,
+    words: &Words,
+    path: &str,
+    file: &str,
+    h: &Held,
+    o: &Order,
+    d: &mut [u8],
+) -> Result<Done, Stopped> {
+    let kept = cli_table::begin(rt, Program::Bureau, path)?;
+    if let Err(told) = cli_replies::is_free(rt, Program::Bureau, file) {
+        cli_table::give_up(rt, path, kept);
+        return Err(Stopped::from(told));
     }
-    if !cli_replies::is_free(Program::Bureau, file) {
-        cli_table::give_up(path, kept);
-        return ended(0);
-    }
-    let out = cli_replies::begin(Program::Bureau, file, path, r);
-    if out < 0 {
-        cli_replies::undo(Program::Bureau, path, kept, r);
-        return ended(0);
-    }
-    make_file(path, kept, seen, file, out, r, o, d)
+    let out = match cli_replies::begin(rt, Program::Bureau, file, path, &h.run) {
+        Ok(out) => out,
+        Err(told) => {
+            cli_replies::undo(rt, Program::Bureau, path, kept, &h.run);
+            return Err(Stopped::from(told));
+        }
+    };
+    make_file(rt, words, path, kept, file, out, h, o, d)
 }
 
 // Fills FILE.new, saves the desk and gives the file its name.
 fn make_file(
-    path: &[u8],
-    kept: i32,
-    seen: Seen,
-    file: &[u8],
-    out: i32,
-    r: Run,
-    o: Order,
+    rt: &HostRuntime,
+    words: &Words,
+    path: &str,
+    kept: File,
+    file: &str,
+    mut out: Growing,
+    h: &Held,
+    o: &Order,
     d: &mut [u8],
-) -> Done {
+) -> Result<Done, Stopped> {
     let forgotten = room_for(d, o.batches);
-    let w = batch::fill(out, file, o, d);
-    if w.refusal != 0 || !w.good || !cli_replies::is_flushed(Program::Bureau, file, out) {
-        cli_replies::remove(Program::Bureau, file, out, r);
-        cli_replies::undo(Program::Bureau, path, kept, r);
-        return ended(w.refusal);
-    }
-    let is_saved = cli_replies::is_finished(Program::Bureau, path, kept, seen, file, out, r, d);
-    libc::close(out);
-    Done {
-        is_saved,
-        refusal: 0,
+    let bytes = match fill(rt, words, &mut out, file, o, d) {
+        Ok(bytes) => bytes,
+        Err(stopped) => {
+            cli_replies::remove(rt, Program::Bureau, file, out.file(), &h.run);
+            cli_replies::undo(rt, Program::Bureau, path, kept, &h.run);
+            return Err(stopped);
+        }
+    };
+    cli_replies::is_finished(
+        rt,
+        Program::Bureau,
+        path,
+        kept,
+        h.seen,
+        file,
+        out.file(),
+        &h.run,
+        d,
+    )?;
+    Ok(Done {
         number: bureau_file::files(d),
-        bytes: w.bytes,
+        bytes,
         forgotten,
-    }
+    })
+}
+
+// All of the file, written and flushed; how many bytes it has.
+fn fill(
+    rt: &HostRuntime,
+    words: &Words,
+    out: &mut Growing,
+    file: &str,
+    o: &Order,
+    d: &mut [u8],
+) -> Result<u64, Stopped> {
+    let bytes = batch::fill(rt, words, out, file, o, d)?;
+    cli_replies::is_flushed(rt, Program::Bureau, file, out.file())?;
+    Ok(bytes)
 }
 
 // Room for an ESI and the batches.
 fn room_for(d: &mut [u8], batches: usize) -> Forgotten {
     bureau_file::drop_answered(d);
-    bureau_file::make_room(d, std::num::wrapping_add_u64(batches as u64, 1))
+    bureau_file::make_room(d, (batches as u64).wrapping_add(1))
 }
 
 // ---- what is said
 
-fn answered(done: Done, o: Order) -> Status {
-    if done.refusal != 0 {
-        return stamps::answer(done.refusal, o.day);
+fn answered(rt: &HostRuntime, done: Result<Done, Stopped>, o: &Order) -> Result<Status, Told> {
+    match done {
+        Ok(done) => {
+            tell_forgotten(rt, &done.forgotten);
+            status::served_if(say::is_said(
+                rt,
+                Program::Bureau,
+                made(rt, &done, o),
+                b"the file is made and the desk is saved, and that can't be written: ",
+            ))
+        }
+        Err(Stopped::Refused(refusal)) => stamps::answer(rt, refusal, o.day),
+        Err(Stopped::Told) => Err(Told),
     }
-    if !done.is_saved {
-        return Status::Trouble;
-    }
-    let forgotten = done.forgotten;
-    tell_forgotten(forgotten);
-    let is_written = say::out(b"file ")
-        && cli_shown::number(done.number)
-        && say::out(b": ESI and ")
-        && cli_shown::number(o.batches as u64)
-        && is_noun_said(o.batches)
-        && cli_shown::number(done.bytes)
-        && say::out(b" bytes\n");
-    status::served_if(say::is_said(
-        Program::Bureau,
-        is_written,
-        b"the file is made and the desk is saved, and that can't be written: ",
-    ))
 }
 
-fn is_noun_said(batches: usize) -> bool {
-    if batches == 1 {
-        return say::out(b" batch, ");
-    }
-    say::out(b" batches, ")
+// The line of a file that was made.
+fn made(rt: &HostRuntime, done: &Done, o: &Order) -> io::Result<()> {
+    let number = done.number;
+    let batches = o.batches;
+    let noun = if batches == 1 { "batch" } else { "batches" };
+    let bytes = done.bytes;
+    println!(rt; "file {number}: ESI and {batches} {noun}, {bytes} bytes")
 }
 
 // What had to make room.
-fn tell_forgotten(f: Forgotten) {
+fn tell_forgotten(rt: &HostRuntime, f: &Forgotten) {
     if f.count == 0 {
         return;
     }
-    say::begin_line(Program::Bureau);
-    say::err(
-        b"the desk has room for 128 messages: the oldest that waited for a reply were forgotten, ",
+    let count = f.count;
+    let first = f.first;
+    let last = f.last;
+    say::begin_line(rt, Program::Bureau);
+    let _ = eprint!(rt;
+        "the desk has room for 128 messages: the oldest that waited for a reply were forgotten, {count} of file {first}"
     );
-    io::print_decimal(STDERR_FILENO, f.count);
-    say::err(b" of file ");
-    io::print_decimal(STDERR_FILENO, f.first);
-    if f.first != f.last {
-        say::err(b" to ");
-        io::print_decimal(STDERR_FILENO, f.last);
+    if first != last {
+        let _ = eprint!(rt; " to {last}");
     }
-    say::err(b"; their replies can't be checked any more\n");
+    say::err(rt, b"; their replies can't be checked any more\n");
 }

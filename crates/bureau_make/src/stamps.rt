@@ -1,7 +1,7 @@
 // The stamps of a file: DATE, TIME and 001, 002 and so on. The bank accepts each once, so those of a file are later than all before.
 use cli_terminal::program::Program;
 use cli_terminal::say;
-use cli_terminal::status::Status;
+use cli_terminal::status::{Status, Told};
 
 pub fn are_real(day: u32, time: u32) -> bool {
     let d = calendar::Date { yymmdd: day };
@@ -9,21 +9,17 @@ pub fn are_real(day: u32, time: u32) -> bool {
 }
 
 // The answer to a refusal; 13 is of DATE or of TIME, since the desk's own names are sound.
-pub fn answer(refusal: u32, day: u32) -> Status {
+pub fn answer(rt: &HostRuntime, refusal: u32, day: u32) -> Result<Status, Told> {
     if refusal != 13 {
-        return say::answer(Program::Bureau, refusal);
+        return say::answer(rt, Program::Bureau, refusal);
     }
     let d = calendar::Date { yymmdd: day };
-    if !d.is_real() {
-        return say::refused_as(
-            Program::Bureau,
-            say::out(b"refused 13: DATE isn't a real day: expected yymmdd, 1980 to 2079\n"),
-        );
-    }
-    say::refused_as(
-        Program::Bureau,
-        say::out(b"refused 13: TIME isn't a real time: expected hhmmss\n"),
-    )
+    let line: &[u8] = if d.is_real() {
+        b"refused 13: TIME isn't a real time: expected hhmmss\n"
+    } else {
+        b"refused 13: DATE isn't a real day: expected yymmdd, 1980 to 2079\n"
+    };
+    say::refused_as(rt, Program::Bureau, say::out(rt, line))
 }
 
 // Whether a day and time come after the last stamp's.
@@ -49,20 +45,21 @@ fn number(digits: &[u8]) -> u32 {
 }
 
 // Whether they come after the last stamp's, or what is the matter.
-pub fn are_later(last: [u8; 15], day: u32, time: u32) -> bool {
-    if last[0] == 0 {
-        return true;
+pub fn are_later(rt: &HostRuntime, last: [u8; 15], day: u32, time: u32) -> Result<(), Told> {
+    if last[0] == 0 || is_after(last, day, time) {
+        return Ok(());
     }
-    let is_so = is_after(last, day, time);
-    if !is_so {
-        say::begin_line(Program::Bureau);
-        say::err(b"DATE, TIME: expected a time after that of the last file, ");
-        say::err(&last[0..12]);
-        say::err(
-            b", since the bank accepts a stamp once: look at the clock; nothing was changed\n",
-        );
-    }
-    is_so
+    say::begin_line(rt, Program::Bureau);
+    say::err(
+        rt,
+        b"DATE, TIME: expected a time after that of the last file, ",
+    );
+    say::err(rt, &last[0..12]);
+    say::err(
+        rt,
+        b", since the bank accepts a stamp once: look at the clock; nothing was changed\n",
+    );
+    Err(Told)
 }
 
 // The stamp of a file's message: 1 is the ESI.

@@ -1,5 +1,8 @@
 // The records of a batch, part by part as they are read: each goes into the digest and, with the line end that is asked for, into the file.
 // A record may be of any length, since it is taken in pieces.
+
+#![tactic(auto)]
+
 ghost use Rattle.std.specs.Prelude.{◌≡◌, false, ◌==◌};
 ghost use Rattle.ground.specs.Choice.{pick};
 ghost use Rattle.ground.specs.Lists.{member};
@@ -20,7 +23,7 @@ pub const NO_ROOM: u32 = 3;
 
 // A record on its way: the digest; how many of its first five characters there are, and which; whether a CR was held back, since it may be
 // of a line end; whether the last character is a CR. Then the number of its line, the characters put into the room, and what is the matter.
-#[derive(Drop)]
+#[derive(Clone, Copy)]
 pub struct Lines {
     pub running: digest::Running,
     pub first: [u8; 5],
@@ -33,7 +36,7 @@ pub struct Lines {
 }
 
 // How the records are sent.
-#[derive(Drop)]
+#[derive(Clone, Copy)]
 pub struct Way {
     pub method: digest::Method,
     pub crlf: bool,

@@ -1,152 +1,152 @@
-// The command show: what a desk holds, with check values for keys. Each part says whether it could be written.
+// The command show: what a desk holds, with check values for keys.
+#![tactic(auto)]
+
+use cli_terminal::options::Words;
 use cli_terminal::program::Program;
-use cli_terminal::status::Status;
-use cli_terminal::{options, say, status};
+use cli_terminal::status::{Status, Told};
+use cli_terminal::{say, status};
+use std::io;
 
 // ---- the keys
 
-fn before(b: desk::Before) -> bool {
+fn before(rt: &HostRuntime, b: desk::Before) -> io::Result<()> {
     let desk::Before::Was(k) = b else {
-        return true;
+        return Ok(());
     };
-    say::out(b", previous ") && cli_shown::generation(k.generation, k.key)
+    say::out(rt, b", previous ")?;
+    cli_shown::generation(rt, k.generation, k.key)
 }
 
-fn key_pair(label: &[u8], k: desk::Keys) -> bool {
-    let previous = k.before;
-    say::out(label)
-        && say::out(b"generation ")
-        && cli_shown::generation(k.generation, k.key)
-        && before(previous)
-        && say::out(b"\n")
+fn key_pair(rt: &HostRuntime, label: &[u8], k: &desk::Keys) -> io::Result<()> {
+    say::out(rt, label)?;
+    say::out(rt, b"generation ")?;
+    cli_shown::generation(rt, k.generation, k.key)?;
+    before(rt, k.before)?;
+    say::out(rt, b"\n")
 }
 
 // The keys, in the words of the bank's `show`, to be compared by telephone.
-pub fn keys(h: desk::Held) -> bool {
-    let transport = h.transport;
-    let working = h.working;
-    key_pair(b"transport   ", transport) && key_pair(b"working     ", working)
+pub fn keys(rt: &HostRuntime, h: &desk::Held) -> io::Result<()> {
+    key_pair(rt, b"transport   ", &h.transport)?;
+    key_pair(rt, b"working     ", &h.working)
 }
 
 // ---- the desk
 
-fn names(h: desk::Held, software: [u8; 16]) -> bool {
-    let own = h.own;
-    let bank = h.bank;
-    cli_shown::who(b"customer    ", &own, 17)
-        && cli_shown::who(b"bank        ", &bank, 17)
-        && say::out(b"software    ")
-        && cli_shown::name(&software)
-        && say::out(b"\n")
+fn names(rt: &HostRuntime, h: &desk::Held, software: &[u8; 16]) -> io::Result<()> {
+    cli_shown::who(rt, b"customer    ", &h.own)?;
+    cli_shown::who(rt, b"bank        ", &h.bank)?;
+    say::out(rt, b"software    ")?;
+    cli_shown::name(rt, software)?;
+    say::out(rt, b"\n")
 }
 
-fn last(stamp: [u8; 15]) -> bool {
+fn last(rt: &HostRuntime, stamp: &[u8; 15]) -> io::Result<()> {
     if stamp[0] == 0 {
-        return say::out(b"last stamp  none\n");
+        return say::out(rt, b"last stamp  none\n");
     }
-    say::out(b"last stamp  ") && say::out(&stamp) && say::out(b"\n")
+    say::out(rt, b"last stamp  ")?;
+    say::out(rt, stamp)?;
+    say::out(rt, b"\n")
 }
 
 // Which message of its file an entry is: the stamps of a file count from 001, the ESI's.
 pub fn place(d: &[u8], i: usize) -> u64 {
     let stamp = bureau_file::stamp_of(d, i);
-    std::num::wrapping_sub_u64(text::number(&stamp[12..15]), 1)
+    text::number(&stamp[12..15]).wrapping_sub(1)
 }
 
-fn waiting(d: &[u8], i: usize) -> bool {
-    if bureau_file::file_of(d, i) == 0 || bureau_file::is_answered(d, i) {
-        return true;
+// Whether an entry has no reply yet that passes.
+fn is_waiting(d: &[u8], i: usize) -> bool {
+    bureau_file::file_of(d, i) != 0 && !bureau_file::is_answered(d, i)
+}
+
+fn waiting(rt: &HostRuntime, d: &[u8], i: usize) -> io::Result<()> {
+    if !is_waiting(d, i) {
+        return Ok(());
     }
-    let stamp = bureau_file::stamp_of(d, i);
-    say::out(b"  file ")
-        && cli_shown::number(bureau_file::file_of(d, i))
-        && is_place_said(bureau_file::kind_of(d, i), place(d, i))
-        && say::out(&stamp)
-        && say::out(b"\n")
+    say::out(rt, b"  file ")?;
+    cli_shown::number(rt, bureau_file::file_of(d, i))?;
+    say_place(rt, bureau_file::kind_of(d, i), place(d, i))?;
+    say::out(rt, &bureau_file::stamp_of(d, i))?;
+    say::out(rt, b"\n")
 }
 
-fn is_place_said(kind: u8, n: u64) -> bool {
+fn say_place(rt: &HostRuntime, kind: u8, n: u64) -> io::Result<()> {
     if kind == bureau_file::ESI {
-        return say::out(b" ESI ");
+        return say::out(rt, b" ESI ");
     }
-    say::out(b" batch ") && cli_shown::number(n) && say::out(b" ")
+    say::out(rt, b" batch ")?;
+    cli_shown::number(rt, n)?;
+    say::out(rt, b" ")
 }
 
-fn all_waiting(d: &[u8]) -> bool {
-    let mut i = 0;
-    while i < 128 {
-        if !waiting(d, i) {
-            return false;
-        }
-        i += 1;
+fn all_waiting(rt: &HostRuntime, d: &[u8]) -> io::Result<()> {
+    for i in 0..128 {
+        waiting(rt, d, i)?;
     }
-    true
+    Ok(())
 }
 
 // How many entries have no reply yet that passes.
 fn count_waiting(d: &[u8]) -> u64 {
-    let mut n = 0;
-    let mut i = 0;
-    while i < 128 {
-        if bureau_file::file_of(d, i) != 0 && !bureau_file::is_answered(d, i) {
-            n = std::num::wrapping_add_u64(n, 1);
+    let mut n = 0u64;
+    for i in 0..128 {
+        if is_waiting(d, i) {
+            n = n.wrapping_add(1);
         }
-        i += 1;
     }
     n
 }
 
-fn messages(d: &[u8]) -> bool {
-    say::out(b"files made  ")
-        && cli_shown::number(bureau_file::files(d))
-        && say::out(b"\nwaiting     ")
-        && cli_shown::number(count_waiting(d))
-        && say::out(b"\n")
-        && all_waiting(d)
+fn messages(rt: &HostRuntime, d: &[u8]) -> io::Result<()> {
+    say::out(rt, b"files made  ")?;
+    cli_shown::number(rt, bureau_file::files(d))?;
+    say::out(rt, b"\nwaiting     ")?;
+    cli_shown::number(rt, count_waiting(d))?;
+    say::out(rt, b"\n")?;
+    all_waiting(rt, d)
 }
 
 // ---- the command
 
-fn shown(d: &[u8]) -> Status {
+fn whole(rt: &HostRuntime, d: &[u8]) -> io::Result<()> {
     let h = bureau_file::held(d);
-    let is_written = names(h, bureau_file::software(d))
-        && keys(h)
-        && last(bureau_file::last_stamp(d))
-        && messages(d);
-    status::served_if(say::is_said(Program::Bureau, is_written, b"the desk can't be shown: "))
+    names(rt, &h, &bureau_file::software(d))?;
+    keys(rt, &h)?;
+    last(rt, &bureau_file::last_stamp(d))?;
+    messages(rt, d)
+}
+
+fn shown(rt: &HostRuntime, d: &[u8]) -> Result<Status, Told> {
+    status::served_if(say::is_said(
+        rt,
+        Program::Bureau,
+        whole(rt, d),
+        b"the desk can't be shown: ",
+    ))
 }
 
 // Loads a desk, or says what is the matter.
-pub fn is_loaded(path: &[u8], d: &mut [u8]) -> bool {
-    if !cli_table::load(Program::Bureau, path, d) {
-        return false;
+pub fn is_loaded(rt: &HostRuntime, path: &str, d: &mut [u8]) -> Result<(), Told> {
+    cli_table::load(rt, Program::Bureau, path, d)?;
+    if bureau_file::is_desk(d) {
+        return Ok(());
     }
-    let is_so = bureau_file::is_desk(d);
-    if !is_so {
-        cli_beside::tell(
-            Program::Bureau,
-            path,
-            b"not a desk, or a damaged one: expected a file that 'open' made; put back a copy\n",
-        );
-    }
-    is_so
+    cli_beside::tell(
+        rt,
+        Program::Bureau,
+        path,
+        b"not a desk, or a damaged one: expected a file that 'open' made; put back a copy\n",
+    );
+    Err(Told)
 }
 
-pub fn show() -> Status {
-    if !bureau_help::are_as_many(5, 3, 3) {
-        return Status::Trouble;
-    }
-    if !options::are_taken(Program::Bureau, b"") {
-        return Status::Trouble;
-    }
-    let mut path = io::buffer();
-    let n = cli_names::of(Program::Bureau, 2, b"DESK", &mut path);
-    if n == 0 {
-        return Status::Trouble;
-    }
+pub fn show(rt: &HostRuntime, words: &Words) -> Result<Status, Told> {
+    bureau_help::are_as_many(rt, words, 5, 3, 3)?;
+    words.are_taken(rt, Program::Bureau, b"")?;
+    let path = cli_names::of(rt, Program::Bureau, words.word(2), b"DESK")?;
     let mut d = [0u8; 16640];
-    if !is_loaded(&path[..n], &mut d) {
-        return Status::Trouble;
-    }
-    shown(&d)
+    is_loaded(rt, path.as_str(), &mut d)?;
+    shown(rt, &d)
 }

@@ -1,4 +1,7 @@
 // The calendar: dates yymmdd of 1980 to 2079, calendar days, banking days, stamps that are too old.
+
+#![tactic(auto)]
+
 ghost use Rattle.std.specs.Prelude.{◌≡◌, ◌+◌, ◌<◌};
 ghost use Rattle.ground.specs.Lists.{member};
 ghost use Rattle.calendar.specs.Dates.{leap, days_in, days_in_year, real_time, place_in_order, is_real, is_before, years_before};
@@ -6,16 +9,16 @@ ghost use Rattle.calendar.specs.Dates.{months_before, day_number, in_year, date_
 ghost use Rattle.calendar.specs.Banking.{weekday, banking_day, more_than, too_old, first_good, earliest_good};
 
 // A date as it is written, yymmdd.
-#[derive(Drop)]
+#[derive(Clone, Copy)]
 pub struct Date {
     pub yymmdd: u32,
 }
 
 // The two counts, which are never added together or compared: a date is moved on by the one, and its age is told by the other.
-#[derive(Drop)]
+#[derive(Clone, Copy)]
 pub struct CalendarDays(pub u32);
 
-#[derive(Drop)]
+#[derive(Clone, Copy)]
 pub struct BankingDays(pub u32);
 
 // A stamp is too old once more banking days than these lie after its date.

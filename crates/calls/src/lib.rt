@@ -1,5 +1,8 @@
 // The three calls that read a file: open, read, end. Each promises one record of specs/Promises.antt: its answer, and the later contents of
 // every buffer lent to it. The four that keep the table are in `table_calls`; specs/Calls.antt has all seven as data.
+
+#![tactic(auto)]
+
 ghost use Rattle.std.specs.Prelude.{◌≡◌, false};
 ghost use Rattle.refusals.specs.Refusals.{lowest};
 ghost use Rattle.calls.specs.Reading.{opening_answer, awaits, finishes, room_after, length_of, reading_refusals, ending_refusals};
@@ -7,7 +10,7 @@ ghost use Rattle.calls.specs.Reading.{read_done, end_done};
 ghost use Rattle.calls.specs.Lent.{lent_refusals};
 ghost use Rattle.calls.specs.Promises.{MeetsOpen, MeetsReading};
 
-#[derive(Drop)]
+#[derive(Clone, Copy)]
 pub struct OpenAnswer {
     pub refusal: u32,
     pub session: session::Session,
@@ -15,7 +18,7 @@ pub struct OpenAnswer {
 
 // What a read or an end answers: the refusal's number or 0, the bytes taken, the reply's length (0: none),
 // whether the file is finished, and the session to hand in with the next call.
-#[derive(Drop)]
+#[derive(Clone, Copy)]
 pub struct Answer {
     pub refusal: u32,
     pub taken: usize,

@@ -1,11 +1,14 @@
 // The keys of a customer: which one a generation names, which is good for a date, and what a new key changes.
+
+#![tactic(auto)]
+
 ghost use Rattle.std.specs.Prelude.{◌≡◌};
 ghost use Rattle.customer.specs.declared.Previous.TheVariants.{Held};
 ghost use Rattle.changeover.specs.Held.{previous_named, held_key, previous_good, good_for, changing};
 ghost use Rattle.changeover.specs.Changes.{changed, with_keys, with_transport, with_working, without_previous};
 
 // A key, or that none of that generation is held.
-#[derive(Drop)]
+#[derive(Clone, Copy)]
 pub enum Key {
     Missing,
     Is(u64),

@@ -1,4 +1,7 @@
 // The checks on an ESI or a frame, in their order: the first that fails.
+
+#![tactic(auto)]
+
 ghost use Rattle.std.specs.Prelude.{◌≡◌, List, [], ◌∷◌, ◌++◌, ◌-◌, ◌≤◌};
 ghost use Rattle.ground.specs.Choice.{either, fails};
 ghost use Rattle.ground.specs.Lists.{same, part};
@@ -23,7 +26,7 @@ pub struct Frame {
 }
 
 // When a message is judged: today, the data type and the clock value given at opening, and the keys made in this file so far.
-#[derive(Drop)]
+#[derive(Clone, Copy)]
 pub struct Occasion {
     pub today: calendar::Date,
     pub kind: u32,

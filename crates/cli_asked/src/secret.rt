@@ -1,83 +1,81 @@
 // A key, a part or another value in hex digits: the word itself, the next line of standard input for `-`, or the first line of a file for
 // `@NAME`. On the command line every user of the machine can see it while the command runs.
-ghost use Rattle.io.specs.Counts.{IsPrefixLen};
+ghost use Rattle.std.specs.Prelude.{◌≤◌, length};
 
 use cli_terminal::program::Program;
 use cli_terminal::say;
-
-#[derive(Drop)]
-struct Byte {
-    is_there: bool,
-    value: u8,
-}
+use cli_terminal::status::Told;
+use cli_words::Block;
+use std::fs::File;
+use std::io::{IsTerminal, Read};
 
 // One byte at a time, so that nothing past the line is taken from standard input.
-fn next_byte(fd: i32) -> Byte {
+fn next_byte<R: Read>(input: &mut R) -> Option<u8> {
     let mut one = [0u8; 1];
-    let got = libc::read(fd, &mut one);
-    Byte {
-        is_there: got == 1,
-        value: one[0],
+    match input.read(&mut one) {
+        Ok(1) => Some(one[0]),
+        _ => None,
     }
-}
-
-// Whether a file can be read: a folder can be opened and not read.
-fn is_readable(fd: i32) -> bool {
-    let mut one = [0u8; 1];
-    0 <= libc::read(fd, &mut one)
 }
 
 // The bytes of a line up to its LF, as many as fit.
-fn line(fd: i32, room: &mut [u8]) -> usize
-    ensures { IsPrefixLen result room.new }
+fn line<R: Read>(input: &mut R, room: &mut [u8]) -> usize
+    ensures { result ≤ length room.new }
 {
-    let mut n = 0;
-    while n < room.len() {
-        let next = next_byte(fd);
-        if !next.is_there {
-            return n;
+    for i in 0..room.len() {
+        match next_byte(input) {
+            Some(b) if b != b'\n' => room[i] = b,
+            _ => return i,
         }
-        if next.value == b'\n' {
-            return n;
-        }
-        room[n] = next.value;
-        n += 1;
     }
-    n
+    room.len()
 }
 
 // A line's hex digits.
-fn line_of(fd: i32, width: usize) -> cli_words::Block {
-    let mut room = io::buffer();
-    let n = line(fd, &mut room);
+fn line_of<R: Read>(input: &mut R, width: usize) -> Block {
+    let mut room = [0u8; 4096];
+    let n = line(input, &mut room);
     cli_words::hex_digits(cli_words::without_cr(&room[..n]), width)
 }
 
+// The value, or what is expected and where.
 fn told(
+    rt: &HostRuntime,
     p: Program,
-    value: cli_words::Block,
+    value: Block,
     name: &[u8],
     what: &[u8],
     source: &[u8],
-) -> cli_words::Block {
-    if let cli_words::Block::Wrong = value {
-        say::begin_line(p);
-        say::err(name);
-        say::err(b": expected ");
-        say::err(what);
-        say::err(source);
-        say::err(b"\n");
+) -> Result<u64, Told> {
+    match value {
+        Block::Of(value) => Ok(value),
+        Block::Wrong => {
+            say::begin_line(rt, p);
+            say::err(rt, name);
+            say::err(rt, b": expected ");
+            say::err(rt, what);
+            say::err(rt, source);
+            say::end_line(rt);
+            Err(Told)
+        }
     }
-    value
 }
 
-fn from_input(p: Program, width: usize, name: &[u8], what: &[u8]) -> cli_words::Block {
-    if libc::isatty(libc::STDIN_FILENO) == 1 {
-        say::err(name);
-        say::err(b": ");
+fn from_input(
+    rt: &HostRuntime,
+    p: Program,
+    width: usize,
+    name: &[u8],
+    what: &[u8],
+) -> Result<u64, Told> {
+    let mut input = rt.stdin();
+    if input.is_terminal() {
+        say::err(rt, name);
+        say::err(rt, b": ");
     }
-    let value = line_of(libc::STDIN_FILENO, width);
+    let value = line_of(&mut input, width);
     told(
+        rt,
         p,
         value,
         name,
@@ -86,57 +84,65 @@ fn from_input(p: Program, width: usize, name: &[u8], what: &[u8]) -> cli_words::
     )
 }
 
-// A value that isn't one may be a file that can't be read.
+// A value that isn't one may be a file that can't be read: a folder can be opened and not read.
 fn told_of_file(
+    rt: &HostRuntime,
     p: Program,
-    value: cli_words::Block,
-    fd: i32,
-    path: &[u8],
+    value: Block,
+    file: &mut File,
+    path: &str,
     name: &[u8],
     what: &[u8],
-) -> cli_words::Block {
-    if let cli_words::Block::Wrong = value {
-        if !is_readable(fd) {
-            say::trouble(p, b"can't read the file that holds a key", path);
-            return value;
+) -> Result<u64, Told> {
+    if let Block::Wrong = value {
+        if let Err(e) = file.read(&mut [0u8; 1]) {
+            say::trouble(rt, p, b"can't read the file that holds a key", path, &e);
+            return Err(Told);
         }
     }
-    told(p, value, name, what, b", as the first line of its file")
+    told(rt, p, value, name, what, b", as the first line of its file")
 }
 
-fn from_file(p: Program, path: &[u8], width: usize, name: &[u8], what: &[u8]) -> cli_words::Block {
-    let fd = os::open_read(path);
-    if fd < 0 {
-        say::trouble(p, b"can't open the file that holds a key", path);
-        return cli_words::Block::Wrong;
+fn from_file(
+    rt: &HostRuntime,
+    p: Program,
+    path: &str,
+    width: usize,
+    name: &[u8],
+    what: &[u8],
+) -> Result<u64, Told> {
+    match File::open(rt, path) {
+        Ok(mut file) => {
+            let value = line_of(&mut file, width);
+            told_of_file(rt, p, value, &mut file, path, name, what)
+        }
+        Err(e) => {
+            say::trouble(rt, p, b"can't open the file that holds a key", path, &e);
+            Err(Told)
+        }
     }
-    let value = line_of(fd, width);
-    let told = told_of_file(p, value, fd, path, name, what);
-    libc::close(fd);
-    told
 }
 
 // Whether a word says where its value is, and is not the value.
 pub fn is_elsewhere(word: &[u8]) -> bool {
-    if word.len() == 0 {
-        return false;
-    }
-    if word[0] == b'@' {
-        return true;
-    }
-    text::same_bytes(word, b"-")
+    word.starts_with(b"@") || word == b"-".as_slice()
 }
 
 // A word as a value of that many hex digits.
-pub fn block(p: Program, word: &[u8], width: usize, name: &[u8], what: &[u8]) -> cli_words::Block {
-    if word.len() == 0 {
-        return told(p, cli_words::Block::Wrong, name, what, b"");
+pub fn block(
+    rt: &HostRuntime,
+    p: Program,
+    word: &[u8],
+    width: usize,
+    name: &[u8],
+    what: &[u8],
+) -> Result<u64, Told> {
+    if let Some((&b'@', path)) = word.split_first() {
+        let path = crate::in_utf8(rt, p, name, path)?;
+        return from_file(rt, p, path, width, name, what);
     }
-    if word[0] == b'@' {
-        return from_file(p, &word[1..], width, name, what);
+    if word == b"-".as_slice() {
+        return from_input(rt, p, width, name, what);
     }
-    if text::same_bytes(word, b"-") {
-        return from_input(p, width, name, what);
-    }
-    told(p, cli_words::hex_digits(word, width), name, what, b"")
+    told(rt, p, cli_words::hex_digits(word, width), name, what, b"")
 }

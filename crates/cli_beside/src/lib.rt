@@ -1,303 +1,239 @@
 // Files beside a name: NAME with an ending is another file in the same folder. What is asked of them, and what is told.
+#![tactic(auto)]
+
 ghost use Rattle.std.specs.Prelude.{◌≤◌, length};
-ghost use Rattle.io.specs.Counts.{IsPrefixLen};
 
 use cli_terminal::program::Program;
 use cli_terminal::say;
+use cli_terminal::status::Told;
+use std::fs::{File, OpenOptions};
+use std::io::{ErrorKind, Read, Seek, SeekFrom};
+use std::os::fd::AsRawFd;
+use std::os::unix::fs::OpenOptionsExt;
+use std::random::RandomSource;
+use std::{fs, io};
 
-// A name with an ending, at the start of the room; nothing where it does not fit, which names no file.
-pub fn beside(room: &mut [u8], name: &[u8], ending: &[u8]) -> usize
-    ensures { IsPrefixLen result room.new }
-{
-    let n = name.len();
-    let k = ending.len();
-    if room.len() < k {
-        return 0;
-    }
-    if room.len() - k < n {
-        return 0;
-    }
-    text::copy(room, name);
-    text::copy(&mut room[n..], ending);
-    n + k
+// A name with an ending.
+pub fn beside(rt: &HostRuntime, name: &str, ending: &str) -> io::Result<String> {
+    Ok(format!(in rt.alloc(); "{name}{ending}")?)
 }
 
 // Makes the file beside a name, only if it is missing.
-pub fn make(name: &[u8], ending: &[u8]) -> i32 {
-    let mut path = io::buffer();
-    let n = beside(&mut path, name, ending);
-    os::create(&path[..n])
+pub fn make(rt: &HostRuntime, name: &str, ending: &str) -> io::Result<File> {
+    OpenOptions::new()
+        .write(true)
+        .create_new(true)
+        .open(rt, beside(rt, name, ending)?)
 }
 
-pub fn open_beside(name: &[u8], ending: &[u8]) -> i32 {
-    let mut path = io::buffer();
-    let n = beside(&mut path, name, ending);
-    os::open_read(&path[..n])
+// The same, for its owner alone from its first moment.
+pub fn make_private(rt: &HostRuntime, name: &str, ending: &str) -> io::Result<File> {
+    OpenOptions::new()
+        .read(true)
+        .write(true)
+        .create_new(true)
+        .mode(0o600)
+        .open(rt, beside(rt, name, ending)?)
 }
 
-pub fn remove(name: &[u8], ending: &[u8]) -> bool {
-    let mut path = io::buffer();
-    let n = beside(&mut path, name, ending);
-    os::unlink(&path[..n]) == 0
+pub fn open_beside(rt: &HostRuntime, name: &str, ending: &str) -> io::Result<File> {
+    File::open(rt, beside(rt, name, ending)?)
 }
 
-pub fn remove_new(name: &[u8]) {
-    remove(name, b".new");
+pub fn remove(rt: &HostRuntime, name: &str, ending: &str) -> io::Result<()> {
+    fs::remove_file(rt, beside(rt, name, ending)?)
+}
+
+pub fn remove_new(rt: &HostRuntime, name: &str) {
+    let _ = remove(rt, name, ".new");
+}
+
+// What a file beside a name is.
+fn seen_beside(rt: &HostRuntime, name: &str, ending: &str) -> io::Result<cli_files::Seen> {
+    let path = beside(rt, name, ending)?;
+    cli_files::of_name(rt, path.as_str())
 }
 
 // Whether anything has that name, a link that leads nowhere too.
-pub fn is_there(name: &[u8], ending: &[u8]) -> bool {
-    let mut path = io::buffer();
-    let n = beside(&mut path, name, ending);
-    let seen = cli_files::of_name(&path[..n]);
-    seen.found
+pub fn is_there(rt: &HostRuntime, name: &str, ending: &str) -> bool {
+    seen_beside(rt, name, ending).is_ok()
 }
 
-// What a file beside a name holds, as much as the room takes; nothing where it is no regular file, of which the opening might wait.
-pub fn read_beside(name: &[u8], ending: &[u8], room: &mut [u8]) -> usize
-    ensures { IsPrefixLen result room.new }
+// A file beside a name, open to read; none where it is no regular file, of which the opening might wait.
+fn open_regular(rt: &HostRuntime, name: &str, ending: &str) -> io::Result<Option<File>> {
+    match seen_beside(rt, name, ending) {
+        Ok(seen) if cli_files::is_regular(seen.mode) => Ok(Some(open_beside(rt, name, ending)?)),
+        _ => Ok(None),
+    }
+}
+
+// What a file beside a name holds, as much as the room takes; nothing where it can't be read.
+pub fn read_beside(rt: &HostRuntime, name: &str, ending: &str, room: &mut [u8]) -> usize
+    ensures { result ≤ length room.new }
 {
-    let mut path = io::buffer();
-    let n = beside(&mut path, name, ending);
-    let seen = cli_files::of_name(&path[..n]);
-    if !cli_files::is_regular(seen.mode) {
-        return 0;
+    match open_regular(rt, name, ending) {
+        Ok(Some(mut file)) => cli_files::read_full(&mut file, room),
+        _ => 0,
     }
-    read_file(&path[..n], room)
 }
 
-fn read_file(path: &[u8], room: &mut [u8]) -> usize
-    ensures { IsPrefixLen result room.new }
-{
-    let fd = os::open_read(path);
-    if fd < 0 {
-        return 0;
-    }
-    let n = io::read_full(fd, room);
-    libc::close(fd);
-    n
-}
-
-// Whether a file beside a name can be opened to read; what is no regular file is not opened.
-pub fn is_readable(name: &[u8], ending: &[u8]) -> bool {
-    let mut path = io::buffer();
-    let n = beside(&mut path, name, ending);
-    let seen = cli_files::of_name(&path[..n]);
-    if !seen.found || !cli_files::is_regular(seen.mode) {
-        return true;
-    }
-    let fd = os::open_read(&path[..n]);
-    if fd < 0 {
-        return false;
-    }
-    libc::close(fd);
-    true
+// Whether a file beside a name can be opened to read, or why not; what is no regular file is not opened.
+pub fn is_readable(rt: &HostRuntime, name: &str, ending: &str) -> io::Result<()> {
+    open_regular(rt, name, ending)?;
+    Ok(())
 }
 
 // Whether a file beside a name is a regular one that holds nothing.
-pub fn is_empty(name: &[u8], ending: &[u8]) -> bool {
-    let mut path = io::buffer();
-    let n = beside(&mut path, name, ending);
-    let seen = cli_files::of_name(&path[..n]);
-    if !seen.found || !cli_files::is_regular(seen.mode) {
-        return false;
+pub fn is_empty(rt: &HostRuntime, name: &str, ending: &str) -> bool {
+    match open_regular(rt, name, ending) {
+        Ok(Some(mut file)) => matches!(file.read(&mut [0u8; 1]), Ok(0)),
+        _ => false,
     }
-    let fd = os::open_read(&path[..n]);
-    if fd < 0 {
-        return false;
-    }
-    let mut first = [0u8; 1];
-    let got = libc::read(fd, &mut first);
-    libc::close(fd);
-    got == 0
 }
 
 // The file beside a name takes that name.
-pub fn take_name(name: &[u8], ending: &[u8]) -> bool {
-    let mut path = io::buffer();
-    let n = beside(&mut path, name, ending);
-    os::rename(&path[..n], name) == 0
+pub fn take_name(rt: &HostRuntime, name: &str, ending: &str) -> io::Result<()> {
+    fs::rename(rt, beside(rt, name, ending)?, name)
 }
 
-// How many first bytes of a name are its folder's; none where the name has no folder.
-fn folder_length(name: &[u8]) -> usize
-    ensures { result ≤ length name.now }
-{
-    let mut i = name.len();
-    while 0 < i {
-        i -= 1;
-        if name[i] == b'/' {
-            if i == 0 {
-                return 1;
-            }
-            return i;
-        }
+// The folder that a name stands in.
+fn folder_of(name: &str) -> &str {
+    match name.rfind('/') {
+        Some(0) => "/",
+        Some(at) => &name[..at],
+        None => ".",
     }
-    0
-}
-
-fn open_folder(name: &[u8]) -> i32 {
-    let n = folder_length(name);
-    if n == 0 {
-        return os::open_read(b".");
-    }
-    os::open_read(&name[..n])
 }
 
 // What was made or renamed in the folder of a name reaches the disk.
-pub fn flush_folder(name: &[u8]) -> bool {
-    let fd = open_folder(name);
-    if fd < 0 {
-        return false;
-    }
-    let status = libc::fsync(fd);
-    libc::close(fd);
-    status == 0
+pub fn flush_folder(rt: &HostRuntime, name: &str) -> io::Result<()> {
+    File::open(rt, folder_of(name))?.sync_all()
 }
 
 // Tells something of the file of that very name.
-pub fn tell(p: Program, path: &[u8], what: &[u8]) {
-    say::of_file(p, path, b"", what);
+pub fn tell(rt: &HostRuntime, p: Program, path: &str, what: &[u8]) {
+    say::of_file(rt, p, path, "", what);
 }
 
 // Tells what can't be done with NAME.new, and why.
-pub fn trouble_new(p: Program, what: &[u8], name: &[u8]) {
-    say::trouble_beside(p, what, name, b".new");
+pub fn trouble_new(rt: &HostRuntime, p: Program, what: &[u8], name: &str, e: &io::Error) {
+    say::trouble_beside(rt, p, what, name, ".new", e);
 }
 
 // Opens a file to read it, or says what is the matter.
-pub fn open_told(p: Program, what: &[u8], path: &[u8]) -> i32 {
-    let fd = os::open_read(path);
-    if fd < 0 {
-        say::trouble(p, what, path);
-    }
-    fd
+pub fn open_told(rt: &HostRuntime, p: Program, what: &[u8], path: &str) -> Result<File, Told> {
+    File::open(rt, path).map_err(|e| {
+        say::trouble(rt, p, what, path, &e);
+        Told
+    })
 }
 
-// One byte more of a file that should end here, or what is the matter; then closes it.
-pub fn read_over(p: Program, fd: i32, what: &[u8], path: &[u8]) -> isize {
-    let mut over = [0u8; 1];
-    let more = libc::read(fd, &mut over);
-    if more < 0 {
-        say::trouble(p, what, path);
+// Whether there is more of a file that should end here, or what is the matter.
+pub fn read_over(
+    rt: &HostRuntime,
+    p: Program,
+    file: &mut File,
+    what: &[u8],
+    path: &str,
+) -> Result<bool, Told> {
+    match file.read(&mut [0u8; 1]) {
+        Ok(more) => Ok(0 < more),
+        Err(e) => {
+            say::trouble(rt, p, what, path, &e);
+            Err(Told)
+        }
     }
-    libc::close(fd);
-    more
 }
 
 // Whether nothing was seen of a name because there is nothing.
-pub fn is_missing(p: Program, what: &[u8], name: &[u8]) -> bool {
-    if os::errno() == libc::ENOENT {
-        return true;
+pub fn is_missing(
+    rt: &HostRuntime,
+    p: Program,
+    what: &[u8],
+    name: &str,
+    e: &io::Error,
+) -> Result<(), Told> {
+    if e.kind() == ErrorKind::NotFound {
+        return Ok(());
     }
-    say::trouble(p, what, name);
-    false
+    say::trouble(rt, p, what, name, e);
+    Err(Told)
 }
 
 // Whether the file beside a name is the open one.
-pub fn is_ours(name: &[u8], ending: &[u8], fd: i32) -> bool {
-    let mut path = io::buffer();
-    let n = beside(&mut path, name, ending);
-    cli_files::is_same(cli_files::of_open(fd), cli_files::of_name(&path[..n]))
+pub fn is_ours(rt: &HostRuntime, name: &str, ending: &str, file: &File) -> bool {
+    match (cli_files::of_open(file), seen_beside(rt, name, ending)) {
+        (Ok(ours), Ok(seen)) => cli_files::is_same(&ours, &seen),
+        _ => false,
+    }
 }
 
 // The name of an open file, as the system tells it.
-fn name_of(fd: i32, room: &mut [u8]) -> usize
-    ensures { IsPrefixLen result room.new }
-{
-    let mut digits = [0u8; 20];
-    let k = io::decimal(cli_files::unsigned(fd) as u64, &mut digits);
-    let mut path = io::buffer();
-    let n = beside(&mut path, b"/proc/self/fd/", &digits[..k]);
-    cli_files::link_text(&path[..n], room)
-}
-
-// How long a name is before its ending .new; 0 where it ends otherwise.
-fn stem(name: &[u8]) -> usize {
-    let n = name.len();
-    if n < 4 {
-        return 0;
-    }
-    let k = n - 4;
-    if text::same_bytes(&name[k..n], b".new") {
-        return k;
-    }
-    0
+fn name_of(rt: &HostRuntime, file: &File) -> io::Result<String> {
+    let number = file.as_raw_fd();
+    let link = format!(in rt.alloc(); "/proc/self/fd/{number}")?;
+    cli_files::link_text(rt, link.as_str())
 }
 
 // The name beside which the open file NAME.new is by now: another one where its folder was moved.
-pub fn named_now(fd: i32, name: &[u8], room: &mut [u8]) -> usize
-    ensures { IsPrefixLen result room.new }
-{
-    let mut whole = io::buffer();
-    let n = name_of(fd, &mut whole);
-    let k = stem(&whole[..n]);
-    if k == 0 {
-        return beside(room, name, b"");
+pub fn named_now(rt: &HostRuntime, file: &File, name: &str) -> io::Result<String> {
+    if let Ok(whole) = name_of(rt, file) {
+        if let Some(stem) = whole.as_str().strip_suffix(".new") {
+            if 0 < stem.len() && stem.len() <= 4000 {
+                return beside(rt, stem, "");
+            }
+        }
     }
-    if 4000 < k {
-        return beside(room, name, b"");
-    }
-    beside(room, &whole[0..k], b"")
+    beside(rt, name, "")
 }
 
 // ---- a file without a name, for what is said later
 
-// Makes one, where NAME's own folder is; -2 and what is the matter where it can't be made.
-pub fn nameless(p: Program, what: &[u8], name: &[u8]) -> i32 {
-    let mut path = io::buffer();
-    let n = beside(&mut path, name, b".XXXXXX");
-    unnamed(p, what, name, &mut path[..n])
+// Makes one, where NAME's own folder is, or says what is the matter.
+pub fn nameless(rt: &HostRuntime, p: Program, what: &[u8], name: &str) -> Result<File, Told> {
+    unnamed(rt, name).map_err(|e| {
+        say::trouble(rt, p, what, name, &e);
+        Told
+    })
 }
 
-fn unnamed(p: Program, what: &[u8], name: &[u8], path: &mut [u8]) -> i32 {
-    let fd = os::create_temp(path);
-    if fd < 0 {
-        say::trouble(p, what, name);
-        return -2;
+// Six random letters after a point, for a name that nothing has.
+fn random_ending(rt: &HostRuntime) -> io::Result<String> {
+    let mut letters = [0u8; 6];
+    rt.fill_bytes(&mut letters)?;
+    let mut ending = String::from_str(rt.alloc(), ".")?;
+    for b in letters {
+        ending.push(char::from(b'A' + b % 26))?;
     }
-    os::unlink(path);
-    fd
+    Ok(ending)
 }
 
-// One part of it; whether there may be more.
-#[derive(Drop)]
-enum Copied {
-    More,
-    End,
-    Unread,
-    Unwritten,
-}
-
-fn copy_part(fd: i32) -> Copied {
-    let mut part = io::large_buffer();
-    let got = libc::read(fd, &mut part);
-    if got < 0 {
-        return Copied::Unread;
-    }
-    if got == 0 {
-        return Copied::End;
-    }
-    let n = io::count(got, &part);
-    if say::out(&part[..n]) {
-        return Copied::More;
-    }
-    Copied::Unwritten
-}
-
-// Whether all that was written to a file is now on standard output too.
-pub fn is_copied(fd: i32) -> bool {
-    libc::lseek(fd, 0, libc::SEEK_SET);
-    let mut turns = u64::MAX;
-    while turns > 0 {
-        let part = copy_part(fd);
-        match part {
-            Copied::More => {}
-            Copied::End => return true,
-            Copied::Unread => return false,
-            Copied::Unwritten => return false,
+// Makes a file under a name that nothing has, and takes the name away.
+fn unnamed(rt: &HostRuntime, name: &str) -> io::Result<File> {
+    for _ in 0..100 {
+        let ending = random_ending(rt)?;
+        match make_private(rt, name, ending.as_str()) {
+            Ok(file) => {
+                let _ = remove(rt, name, ending.as_str());
+                return Ok(file);
+            }
+            Err(e) if e.kind() == ErrorKind::AlreadyExists => {}
+            Err(e) => return Err(e),
         }
-        turns -= 1;
     }
-    false
+    Err(io::Error::from(ErrorKind::AlreadyExists))
+}
+
+// Puts all that was written to a file on standard output too.
+pub fn is_copied(rt: &HostRuntime, file: &mut File) -> io::Result<()> {
+    let mut part = [0u8; 65536];
+    file.seek(SeekFrom::Start(0))?;
+    for _ in 0..u64::MAX {
+        let n = file.read(&mut part)?;
+        if n == 0 {
+            return Ok(());
+        }
+        say::out(rt, &part[..n])?;
+    }
+    Err(io::Error::from(ErrorKind::FileTooLarge))
 }

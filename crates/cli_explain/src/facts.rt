@@ -5,7 +5,7 @@ use cli_texts::sheet::Sheet;
 
 // The bank's floor and name; the sender's data types; the generation of the current working key after a reply, and whether it was
 // made for that reply.
-#[derive(Drop)]
+#[derive(Clone, Copy)]
 pub struct Facts {
     floor: u32,
     bank: [u8; 25],

@@ -56,14 +56,12 @@ fn is_notice(r: [u8; 237], code: u32, field: u32) -> bool {
 
 // The place of the field that a code's notice names, or 25.
 fn named_with(r: [u8; 237], code: u32) -> usize {
-    let mut i = 0;
-    while i < 25 {
+    for i in 0..25 {
         if is_notice(r, code, number_of(i)) {
             return i;
         }
-        i += 1;
     }
-    i
+    25
 }
 
 // The place of the field that a reply names, or 25.
@@ -97,7 +95,7 @@ fn value_start(r: [u8; 237], i: usize) -> usize {
     if is_format(r) {
         n = name_end(1010, number_of(i));
     }
-    std::num::wrapping_add_usize(n, 187)
+    n.wrapping_add(187)
 }
 
 fn is_format(r: [u8; 237]) -> bool {
@@ -105,8 +103,8 @@ fn is_format(r: [u8; 237]) -> bool {
 }
 
 fn value_end(r: [u8; 237], i: usize) -> usize {
-    let width = std::num::wrapping_sub_usize(end_of(i), start_of(i));
-    std::num::wrapping_add_usize(value_start(r, i), width)
+    let width = end_of(i).wrapping_sub(start_of(i));
+    (value_start(r, i)).wrapping_add(width)
 }
 
 // In quotes. Field 1 is that of a record, which may have fewer characters.

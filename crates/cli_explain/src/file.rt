@@ -1,102 +1,56 @@
 // A file of replies, read one by one: an ESI of 237 characters or a PTE of 317, and its LF.
+ghost use Rattle.std.specs.Prelude.{◌≤◌, length, IfOk};
+
+use crate::Untold;
 use crate::parts::first_of;
-
-// What stands next in the file: a reply, its end, something else, or a read that failed.
-#[derive(Drop)]
-pub enum Next {
-    Reply,
-    End,
-    Other,
-    Unread,
-}
-
-// How many bytes came, and whether a read failed.
-#[derive(Drop)]
-struct Got {
-    count: usize,
-    is_failed: bool,
-}
+use std::io;
+use std::io::Read;
 
 // Bytes up to the room's end or the file's.
-fn read_in(input: i32, room: &mut [u8]) -> Got {
+fn read_in<R: Read>(input: &mut R, room: &mut [u8]) -> io::Result<usize>
+    ensures { IfOk result (λ n. n ≤ length room.new) }
+{
     let mut count = 0;
     while count < room.len() {
-        let got = libc::read(input, &mut room[count..]);
-        if got < 0 {
-            return Got {
-                count,
-                is_failed: true,
-            };
-        }
-        let n = io::count(got, &room[count..]);
+        let n = input.read(&mut room[count..])?;
         if n == 0 {
-            return Got {
-                count,
-                is_failed: false,
-            };
+            return Ok(count);
         }
         count += n;
     }
-    Got {
-        count,
-        is_failed: false,
-    }
+    Ok(count)
 }
 
-// A reply's first 237 characters, where there is one.
-#[derive(Drop)]
-pub struct Came {
-    pub next: Next,
-    pub reply: [u8; 237],
-}
-
-// What bytes end: a reply where they are as many as were asked for and end it.
-fn ended(got: Got, asked: usize, is_end: bool) -> Next {
-    if got.is_failed {
-        return Next::Unread;
-    }
-    if got.count < asked {
-        return Next::Other;
-    }
+// Bytes end a reply where they are as many as were asked for and end it.
+fn ended(is_end: bool) -> Result<(), Untold> {
     if is_end {
-        return Next::Reply;
+        return Ok(());
     }
-    Next::Other
+    Err(Untold::NotReplies)
 }
 
 // The rest of a PTE.
-fn rest_read(input: i32) -> Next {
+fn rest_read<R: Read>(input: &mut R) -> Result<(), Untold> {
     let mut rest = [0u8; 80];
-    let got = read_in(input, &mut rest);
-    ended(got, 80, rest[79] == b'\n')
+    let count = read_in(input, &mut rest)?;
+    ended(count == 80 && rest[79] == b'\n')
 }
 
 // What the first bytes begin: an ESI has its LF in them, of a PTE the rest is still to come.
-fn begun(input: i32, got: Got, head: [u8; 238]) -> Next {
-    if text::same_bytes(&head[0..8], b">>PTE317") {
-        if got.count == 238 {
-            return rest_read(input);
-        }
+fn begun<R: Read>(input: &mut R, count: usize, head: &[u8; 238]) -> Result<(), Untold> {
+    if count == 238 && head.starts_with(b">>PTE317") {
+        return rest_read(input);
     }
-    let is_esi = text::same_bytes(&head[0..8], b">>ESI237");
-    ended(got, 238, is_esi && head[237] == b'\n')
+    ended(count == 238 && head.starts_with(b">>ESI237") && head[237] == b'\n')
 }
 
-// Reads the next reply.
-pub fn read_next(input: i32) -> Came {
+// Reads the next reply's first 237 characters; none at the file's end.
+pub fn read_next<R: Read>(input: &mut R) -> Result<Option<[u8; 237]>, Untold> {
     let mut head = [0u8; 238];
-    let got = read_in(input, &mut head);
-    let reply = first_of(&head);
-    if got.count == 0 {
-        if !got.is_failed {
-            return Came {
-                next: Next::End,
-                reply,
-            };
-        }
+    let count = read_in(input, &mut head)?;
+    if count == 0 {
+        return Ok(None);
     }
-    Came {
-        next: begun(input, got, head),
-        reply,
-    }
+    begun(input, count, &head)?;
+    Ok(Some(first_of(&head)))
 }

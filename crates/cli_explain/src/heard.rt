@@ -3,7 +3,7 @@ use crate::Settled;
 
 // The message that a fault of form is of, and the line where it begins; the one that is answered, an ESI or a SUO; the one that closes a
 // frame. A message stands in as much room as a reply, so that both are read by the same functions.
-#[derive(Drop)]
+#[derive(Clone, Copy)]
 pub struct Heard {
     pub faulty: [u8; 237],
     pub line: u64,

@@ -1,4 +1,6 @@
 // Replies in words, for people: a line for each while a file is received, where its messages are at hand, and a file of replies.
+#![tactic(auto)]
+
 mod facts;
 mod fields;
 mod file;
@@ -6,14 +8,15 @@ mod generations;
 mod heard;
 mod parts;
 
-use crate::file::Next;
 use crate::heard::Heard;
 use crate::parts::{code_of, first_of, is_bare};
 use cli_texts::sheet::Sheet;
 use cli_texts::{Line, sheet, with_advice, with_text};
+use std::io;
+use std::io::{Read, Write};
 
 // How many were accepted and refused, and how many batches were answered.
-#[derive(Drop)]
+#[derive(Clone, Copy)]
 pub struct Count {
     pub accepted: u64,
     pub refused: u64,
@@ -21,7 +24,7 @@ pub struct Count {
 }
 
 // Where a reply was settled, and the lines where the SUO and the VAR on their way begin.
-#[derive(Drop)]
+#[derive(Clone, Copy)]
 pub struct Settled {
     pub line: u64,
     pub byte: u64,
@@ -29,19 +32,19 @@ pub struct Settled {
     pub var: u64,
 }
 
-// How a file of replies was told: whole; up to what is no reply, or is cut short; up to a read or a write that failed.
+// Why a file of replies was not told whole: it has what is no reply, or is cut short; a read or a write failed.
 #[derive(Drop)]
-pub enum Told {
-    Whole,
+pub enum Untold {
     NotReplies,
-    Unread,
-    Unwritten,
+    Unread(io::Error),
+    Unwritten(io::Error),
 }
 
-#[derive(Drop)]
-pub struct Explained {
-    pub told: Told,
-    pub count: Count,
+// An error on the way is one of reading; what is written is told by itself.
+impl From<io::Error> for Untold {
+    fn from(e: io::Error) -> Untold {
+        Untold::Unread(e)
+    }
 }
 
 // ---- the count
@@ -64,9 +67,9 @@ fn counted_with(c: Count, r: [u8; 237]) -> Count {
     let refused = one_if(!is_accepted);
     let batches = one_if(parts::about_of(r) == cli_texts::OF_BATCH);
     Count {
-        accepted: std::num::wrapping_add_u64(c.accepted, accepted),
-        refused: std::num::wrapping_add_u64(c.refused, refused),
-        batches: std::num::wrapping_add_u64(c.batches, batches),
+        accepted: c.accepted.wrapping_add(accepted),
+        refused: c.refused.wrapping_add(refused),
+        batches: c.batches.wrapping_add(batches),
     }
 }
 
@@ -79,17 +82,18 @@ pub fn counted(c: Count, reply: &[u8]) -> Count {
 }
 
 // At the end: how many were accepted and refused.
-pub fn tell_count(fd: i32, c: Count) -> bool {
+pub fn tell_count<W: Write>(out: &mut W, c: Count) -> io::Result<()> {
     let mut s = sheet::with_number(sheet::blank(), b'a', c.accepted);
     s = sheet::with_number(s, b'e', c.refused);
-    cli_texts::is_written(fd, with_text(cli_texts::no_line(), s, cli_texts::COUNT))
+    let l = with_text(cli_texts::no_line(), s, cli_texts::COUNT);
+    cli_texts::is_written(out, &l)
 }
 
 // ---- a reply and its messages
 
 // Identity, qualifier and stamp as far as they came and can be shown.
 fn with_whom(l: Line, s: Sheet, m: [u8; 237], who: usize, key: u64) -> Line {
-    if !sheet::is_shown(m, who, std::num::wrapping_add_usize(who, 25)) {
+    if !sheet::is_shown(m, who, who.wrapping_add(25)) {
         return l;
     }
     let named = with_text(l, s, key);
@@ -202,21 +206,22 @@ fn told_line(
 }
 
 // One reply: the line of the plain listing, then what is known of it. `t` and `after` are the table before and after it, `before` the
-// session just before the byte, or the end, that settled it; `c` the count before it. False where it can't be written.
-pub fn tell(
-    fd: i32,
+// session just before the byte, or the end, that settled it; `c` the count before it.
+pub fn tell<W: Write>(
+    out: &mut W,
     t: &[u8],
     after: &[u8],
     before: session::Session,
     reply: &[u8],
     c: Count,
     at: Settled,
-) -> bool {
+) -> io::Result<()> {
     if reply.len() < 237 {
-        return false;
+        return Err(io::Error::from(io::ErrorKind::InvalidInput));
     }
     let r = first_of(reply);
-    cli_texts::is_written(fd, told_line(t, after, before, r, c.batches, at))
+    let l = told_line(t, after, before, r, c.batches, at);
+    cli_texts::is_written(out, &l)
 }
 
 // ---- a file of replies
@@ -232,78 +237,30 @@ fn with_answered(l: Line, s: Sheet, r: [u8; 237]) -> Line {
     with_text(l, s, cli_texts::ANSWERED)
 }
 
-fn is_told(fd: i32, r: [u8; 237], c: Count) -> bool {
-    let before = std::num::wrapping_add_u64(c.accepted, c.refused);
+fn tell_one<W: Write>(out: &mut W, r: [u8; 237], c: Count) -> io::Result<()> {
+    let before = c.accepted.wrapping_add(c.refused);
     let i = fields::named_in(r);
     let mut s = fields::with_named(parts::sheet_of(r, c.batches, r, 35), r, i);
-    s = sheet::with_number(s, b'o', std::num::wrapping_add_u64(before, 1));
+    s = sheet::with_number(s, b'o', before.wrapping_add(1));
     let mut l = with_text(cli_texts::no_line(), s, cli_texts::NUMBER);
     l = with_text(l, s, parts::about_of(r));
     l = with_text(l, s, cli_texts::NOTICE);
     l = with_answered(l, s, r);
     l = with_advice(l, s, fields::key_on(r, i));
     l = with_text(l, s, cli_texts::END);
-    cli_texts::is_written(fd, l)
+    cli_texts::is_written(out, &l)
 }
 
-// Whether there may be another reply, how the file was told if not, and the count so far.
-#[derive(Drop)]
-struct Turn {
-    going: bool,
-    told: Told,
-    count: Count,
-}
-
-fn stopped(told: Told, count: Count) -> Turn {
-    Turn {
-        going: false,
-        told,
-        count,
-    }
-}
-
-fn tell_next(input: i32, output: i32, c: Count) -> Turn {
-    let came = file::read_next(input);
-    let next = came.next;
-    let r = came.reply;
-    match next {
-        Next::Reply => {
-            if !is_told(output, r, c) {
-                return stopped(Told::Unwritten, c);
-            }
-            Turn {
-                going: true,
-                told: Told::Whole,
-                count: counted_with(c, r),
-            }
-        }
-        Next::End => {
-            if tell_count(output, c) {
-                return stopped(Told::Whole, c);
-            }
-            stopped(Told::Unwritten, c)
-        }
-        Next::Other => stopped(Told::NotReplies, c),
-        Next::Unread => stopped(Told::Unread, c),
-    }
-}
-
-// The replies of an open file, told to another. A proved loop has to end and nothing says that a file does, so it counts turns down from a
-// number that no run uses up.
-pub fn replies(input: i32, output: i32) -> Explained {
+// The replies of an open file, told to another, and how many they were.
+pub fn replies<R: Read, W: Write>(input: &mut R, output: &mut W) -> Result<Count, Untold> {
     let mut count = no_count();
-    let mut turns = u64::MAX;
-    while turns > 0 {
-        let turn = tell_next(input, output, count);
-        let told = turn.told;
-        count = turn.count;
-        if !turn.going {
-            return Explained { told, count };
-        }
-        turns -= 1;
+    for _ in 0..u64::MAX {
+        let Some(r) = file::read_next(input)? else {
+            tell_count(output, count).map_err(|e| Untold::Unwritten(e))?;
+            return Ok(count);
+        };
+        tell_one(output, r, count).map_err(|e| Untold::Unwritten(e))?;
+        count = counted_with(count, r);
     }
-    Explained {
-        told: Told::Unread,
-        count,
-    }
+    Err(Untold::NotReplies)
 }

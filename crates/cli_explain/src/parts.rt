@@ -58,13 +58,13 @@ fn with_code(before: Sheet, r: [u8; 237], batches: u64) -> Sheet {
     let mut s = sheet::with_part(before, b'c', r, 11, 12, false);
     s = sheet::with_part(s, b'd', r, 12, 16, false);
     s = sheet::with_part(s, b'n', r, 186, 237, true);
-    sheet::with_number(s, b'm', std::num::wrapping_add_u64(batches, 1))
+    sheet::with_number(s, b'm', batches.wrapping_add(1))
 }
 
 // Its code, and whom it answers: identity and qualifier at a place of the reply or of a message, and the stamp.
 pub fn sheet_of(r: [u8; 237], batches: u64, m: [u8; 237], who: usize) -> Sheet {
-    let middle = std::num::wrapping_add_usize(who, 17);
-    let end = std::num::wrapping_add_usize(who, 25);
+    let middle = who.wrapping_add(17);
+    let end = who.wrapping_add(25);
     let mut s = with_code(sheet::blank(), r, batches);
     s = sheet::with_name(s, b'i', m, who, middle);
     s = sheet::with_name(s, b'q', m, middle, end);

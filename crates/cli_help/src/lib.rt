@@ -1,6 +1,10 @@
 // Made by scripts/pages from docs/commands: change that and not this. What the program prints for help.
+#![tactic(auto)]
+
+use cli_terminal::options::Words;
 use cli_terminal::program::Program;
-use cli_terminal::{options, say};
+use cli_terminal::say;
+use cli_terminal::status::Told;
 
 // The number of the command that a word names, in the order of the list; 0 for none.
 pub fn command_of(word: &[u8]) -> u32 {
@@ -32,48 +36,54 @@ pub fn command_of(word: &[u8]) -> u32 {
 }
 
 // The commands' names, for the line that says what was expected.
-pub fn tell_names() {
+pub fn tell_names(rt: &HostRuntime) {
     say::expected(
+        rt,
         Program::Lentilpot,
         b"COMMAND",
         b"setup, add, key, order, receive, show, explain or help",
     );
 }
 
-// The words of a command, to standard error, as the end of a line.
-pub fn tell_words(command: u32) {
+// The words of a command, as the end of a line.
+pub fn words_of(command: u32) -> &'static [u8] {
     match command {
-        1 => say::err(b"setup TABLE BANK QUALIFIER SOFTWARE FLOOR K V [HOLIDAYS]\n"),
-        2 => say::err(
+        1 => b"setup TABLE BANK QUALIFIER SOFTWARE FLOOR K V [HOLIDAYS]\n",
+        2 =>
             b"add TABLE DATE IDENTITY QUALIFIER PART1 PART2 CHECK GENERATION TYPES AGREED LEAVE [LENGTH] [--later]\n",
-        ),
-        3 => say::err(
-            b"key TABLE DATE IDENTITY QUALIFIER PART1 PART2 CHECK GENERATION [--later]\n",
-        ),
-        4 => say::err(b"order TABLE DATE IDENTITY QUALIFIER CLOCK [--later]\n"),
-        5 => say::err(
-            b"receive TABLE DATE TIME TYPE CLOCK FILE REPLIES [READ] [--explain] [--later]\n",
-        ),
-        6 => say::err(b"show TABLE [IDENTITY QUALIFIER]\n"),
-        7 => say::err(b"explain REPLIES\n"),
-        _ => say::err(b"help [COMMAND]\n"),
+        3 => b"key TABLE DATE IDENTITY QUALIFIER PART1 PART2 CHECK GENERATION [--later]\n",
+        4 => b"order TABLE DATE IDENTITY QUALIFIER CLOCK [--later]\n",
+        5 => b"receive TABLE DATE TIME TYPE CLOCK FILE REPLIES [READ] [--explain] [--later]\n",
+        6 => b"show TABLE [IDENTITY QUALIFIER]\n",
+        7 => b"explain REPLIES\n",
+        _ => b"help [COMMAND]\n",
     }
+}
+
+// The same, to standard error.
+pub fn tell_words(rt: &HostRuntime, command: u32) {
+    say::err(rt, words_of(command));
 }
 
 // Whether there are as many words as the command takes, or what was expected.
-pub fn are_as_many(command: u32, low: usize, high: usize) -> bool {
-    if options::are_as_many(Program::Lentilpot, low, high) {
-        return true;
+pub fn are_as_many(
+    rt: &HostRuntime,
+    words: &Words,
+    command: u32,
+    low: usize,
+    high: usize,
+) -> Result<(), Told> {
+    let are_so = words.are_as_many(rt, Program::Lentilpot, low, high);
+    if are_so.is_err() {
+        tell_words(rt, command);
     }
-    tell_words(command);
-    false
+    are_so
 }
 
-// The help of one command, to standard output; whether it could be written.
-pub fn of(command: u32) -> bool {
+// The help of one command.
+pub fn of(command: u32) -> &'static [u8] {
     match command {
-        1 => say::out(
-            b"usage: lentilpot setup TABLE BANK QUALIFIER SOFTWARE FLOOR K V [HOLIDAYS]
+        1 => b"usage: lentilpot setup TABLE BANK QUALIFIER SOFTWARE FLOOR K V [HOLIDAYS]
 
 Sets up a bank's table.
 TABLE is the name of a new file. A table is never replaced: its used stamps
@@ -133,9 +143,7 @@ after.
                 the whole
   --            ends the options, for a word that begins with two dashes
 ",
-        ),
-        2 => say::out(
-            b"usage: lentilpot add TABLE DATE IDENTITY QUALIFIER PART1 PART2 CHECK GENERATION
+        2 => b"usage: lentilpot add TABLE DATE IDENTITY QUALIFIER PART1 PART2 CHECK GENERATION
            TYPES AGREED LEAVE [LENGTH] [--later]
 
 Adds a customer, with the first transport key.
@@ -212,9 +220,7 @@ and 'stty echo' after.
                 the whole
   --            ends the options, for a word that begins with two dashes
 ",
-        ),
-        3 => say::out(
-            b"usage: lentilpot key TABLE DATE IDENTITY QUALIFIER PART1 PART2 CHECK GENERATION
+        3 => b"usage: lentilpot key TABLE DATE IDENTITY QUALIFIER PART1 PART2 CHECK GENERATION
            [--later]
 
 Enters a customer's next transport key.
@@ -255,9 +261,7 @@ and 'stty echo' after.
                 the whole
   --            ends the options, for a word that begins with two dashes
 ",
-        ),
-        4 => say::out(
-            b"usage: lentilpot order TABLE DATE IDENTITY QUALIFIER CLOCK [--later]
+        4 => b"usage: lentilpot order TABLE DATE IDENTITY QUALIFIER CLOCK [--later]
 
 Orders a new working key for a customer.
 The customer gets it with the reply to the next message that is accepted under
@@ -292,9 +296,7 @@ after.
                 the whole
   --            ends the options, for a word that begins with two dashes
 ",
-        ),
-        5 => say::out(
-            b"usage: lentilpot receive TABLE DATE TIME TYPE CLOCK FILE REPLIES [READ]
+        5 => b"usage: lentilpot receive TABLE DATE TIME TYPE CLOCK FILE REPLIES [READ]
            [--explain] [--later]
 
 Receives a file and answers it.
@@ -360,9 +362,7 @@ after.
                 the whole
   --            ends the options, for a word that begins with two dashes
 ",
-        ),
-        6 => say::out(
-            b"usage: lentilpot show TABLE [IDENTITY QUALIFIER]
+        6 => b"usage: lentilpot show TABLE [IDENTITY QUALIFIER]
 
 Shows what a table holds, or one customer of it.
 Keys are shown by their check values, never themselves. It may run beside any
@@ -380,9 +380,7 @@ message is accepted (E 1034) before some are.
                 the whole
   --            ends the options, for a word that begins with two dashes
 ",
-        ),
-        7 => say::out(
-            b"usage: lentilpot explain REPLIES
+        7 => b"usage: lentilpot explain REPLIES
 
 Says in words what the replies in a file tell.
 Beside each reply: what it is about, its notice, customer and stamp, and what
@@ -402,9 +400,7 @@ is 1 where some were.
                 the whole
   --            ends the options, for a word that begins with two dashes
 ",
-        ),
-        _ => say::out(
-            b"usage: lentilpot help [COMMAND]
+        _ => b"usage: lentilpot help [COMMAND]
 
 Prints the help, whole or of one command.
 
@@ -416,14 +412,12 @@ Prints the help, whole or of one command.
                 the whole
   --            ends the options, for a word that begins with two dashes
 ",
-        ),
     }
 }
 
 // The whole help: one text and so one write.
-pub fn whole() -> bool {
-    say::out(
-        b"usage: lentilpot COMMAND WORDS
+pub fn whole() -> &'static [u8] {
+    b"usage: lentilpot COMMAND WORDS
 
   setup    TABLE BANK QUALIFIER SOFTWARE FLOOR K V [HOLIDAYS]
            sets up a bank's table
@@ -482,10 +476,9 @@ Exit status  0  served, and every reply is K
              2  trouble with words or files, told in one line on standard error
 
 'lentilpot COMMAND --help' tells more of a command and its words.
-",
-    )
+"
 }
 
-pub fn version() -> bool {
-    say::out(b"lentilpot 1.5\n")
+pub fn version() -> &'static [u8] {
+    b"lentilpot 1.5\n"
 }

@@ -1,70 +1,59 @@
 // The file of holidays that 'setup' is given.
+use cli_terminal::options::Words;
 use cli_terminal::program::Program;
-use cli_terminal::{options, say};
+use cli_terminal::say;
+use cli_terminal::status::Told;
+use std::fs::File;
 
-fn bad_line(path: &[u8], line: u32) {
-    cli_beside::tell(Program::Lentilpot, path, b"line ");
-    io::print_decimal(libc::STDERR_FILENO, line as u64);
-    say::err(b" isn't a date: expected one yymmdd a line\n");
-}
-
-fn no_dates() -> cli_words::Dates {
-    cli_words::Dates {
-        good: false,
-        line: 0,
-        count: 0,
-        dates: [0; 201],
-    }
+fn bad_line(rt: &HostRuntime, path: &str, line: u32) {
+    cli_beside::tell(rt, Program::Lentilpot, path, b"line ");
+    let _ = eprintln!(rt; "{line} isn't a date: expected one yymmdd a line");
 }
 
 // The dates of a file of holidays; none where the word is left out.
-pub fn asked(i: usize) -> cli_words::Dates {
-    if options::count() <= i {
-        return cli_words::holidays(b"");
+pub fn asked(rt: &HostRuntime, words: &Words, i: usize) -> Result<cli_words::Dates, Told> {
+    if words.count() <= i {
+        return Ok(cli_words::holidays(b""));
     }
-    let mut path = io::buffer();
-    let n = cli_names::of(Program::Lentilpot, i, b"HOLIDAYS", &mut path);
-    if n == 0 {
-        return no_dates();
-    }
-    read_holidays(&path[..n])
+    let path = cli_names::of(rt, Program::Lentilpot, words.word(i), b"HOLIDAYS")?;
+    read_holidays(rt, path.as_str())
 }
 
-fn read_holidays(path: &[u8]) -> cli_words::Dates {
-    let fd = cli_beside::open_told(
+fn read_holidays(rt: &HostRuntime, path: &str) -> Result<cli_words::Dates, Told> {
+    let mut file = cli_beside::open_told(
+        rt,
         Program::Lentilpot,
         b"can't open the holidays, expected a file with one yymmdd a line",
         path,
-    );
-    if fd < 0 {
-        return no_dates();
-    }
-    let mut lines = io::buffer();
-    let n = io::read_full(fd, &mut lines);
-    if !is_end(path, fd) {
-        return no_dates();
-    }
+    )?;
+    let mut lines = [0u8; 4096];
+    let n = cli_files::read_full(&mut file, &mut lines);
+    is_end(rt, path, &mut file)?;
     let d = cli_words::holidays(&lines[..n]);
     if !d.good {
-        bad_line(path, d.line);
+        bad_line(rt, path, d.line);
+        return Err(Told);
     }
-    d
+    Ok(d)
 }
 
 // Whether all of the file was read.
-fn is_end(path: &[u8], fd: i32) -> bool {
+fn is_end(rt: &HostRuntime, path: &str, file: &mut File) -> Result<(), Told> {
     let more = cli_beside::read_over(
+        rt,
         Program::Lentilpot,
-        fd,
+        file,
         b"can't read the holidays, expected a file with one yymmdd a line",
         path,
-    );
-    if 0 < more {
-        cli_beside::tell(
-            Program::Lentilpot,
-            path,
-            b"too long for holidays: expected at most 200 lines of one yymmdd each\n",
-        );
+    )?;
+    if !more {
+        return Ok(());
     }
-    more == 0
+    cli_beside::tell(
+        rt,
+        Program::Lentilpot,
+        path,
+        b"too long for holidays: expected at most 200 lines of one yymmdd each\n",
+    );
+    Err(Told)
 }

@@ -1,370 +1,281 @@
 // The commands that keep a table: setup, add, key, order, each one of `table_calls`'s calls between a load and a save.
+#![tactic(auto)]
+
 mod holidays;
 mod limits;
 
+use calendar::Date;
 use cli_held::Held;
+use cli_terminal::options::Words;
 use cli_terminal::program::Program;
-use cli_terminal::status::Status;
-use cli_terminal::{options, say};
+use cli_terminal::say;
+use cli_terminal::status::{Status, Told};
+use table_calls::{Adding, Entering, Ordering, Setting};
 
 // Saves the table that a served call left, and answers.
-fn saved(table: &[u8], t: &[u8], h: Held) -> Status {
-    if cli_held::is_saved(Program::Lentilpot, table, t, h) {
-        return say::answer(Program::Lentilpot, 0);
-    }
-    Status::Trouble
+fn saved(rt: &HostRuntime, table: &str, t: &[u8], h: &Held) -> Result<Status, Told> {
+    cli_held::is_saved(rt, Program::Lentilpot, table, t, h)?;
+    say::answer(rt, Program::Lentilpot, 0)
 }
 
 // Answers a call on that day that was refused.
-fn refused(table: &[u8], t: &[u8], h: Held, today: calendar::Date, refusal: u32) -> Status {
-    let r = h.run;
-    cli_lock::release(Program::Lentilpot, table, r);
-    cli_days::answer(table::day(t), today, 0, refusal)
+fn refused(
+    rt: &HostRuntime,
+    table: &str,
+    t: &[u8],
+    h: &Held,
+    today: Date,
+    refusal: u32,
+) -> Result<Status, Told> {
+    cli_held::release(rt, Program::Lentilpot, table, h);
+    cli_days::answer(rt, table::day(t), today, 0, refusal)
 }
 
 // Takes the table and loads it for a call on that day; the lock stays only where that succeeds.
-fn loaded(table: &[u8], t: &mut [u8], today: calendar::Date) -> Held {
-    let h = cli_held::take(Program::Lentilpot, table);
-    let r = h.run;
-    if r.process == 0 {
-        return h;
-    }
-    if cli_table::load(Program::Lentilpot, table, t) {
-        if cli_days::is_meant(t, today) {
-            return h;
+fn loaded(
+    rt: &HostRuntime,
+    words: &Words,
+    table: &str,
+    t: &mut [u8],
+    today: Date,
+) -> Result<Held, Told> {
+    let h = cli_held::take(rt, Program::Lentilpot, table)?;
+    match load_meant(rt, words, table, t, today) {
+        Ok(()) => Ok(h),
+        Err(told) => {
+            cli_held::release(rt, Program::Lentilpot, table, &h);
+            Err(told)
         }
     }
-    cli_lock::release(Program::Lentilpot, table, r);
-    cli_held::not_held()
+}
+
+fn load_meant(
+    rt: &HostRuntime,
+    words: &Words,
+    table: &str,
+    t: &mut [u8],
+    today: Date,
+) -> Result<(), Told> {
+    cli_table::load(rt, Program::Lentilpot, table, t)?;
+    cli_days::is_meant(rt, words, t, today)
 }
 
 // ---- setup
 
-pub fn setup() -> Status {
-    if !cli_help::are_as_many(1, 9, 10) {
-        return Status::Trouble;
-    }
-    if !options::are_taken(Program::Lentilpot, b"") {
-        return Status::Trouble;
-    }
-    let mut table = io::buffer();
-    let n = cli_names::of_kept(Program::Lentilpot, 2, b"TABLE", &mut table);
-    if n == 0 {
-        return Status::Trouble;
-    }
-    setup_words(&table[..n])
+pub fn setup(rt: &HostRuntime, words: &Words) -> Result<Status, Told> {
+    cli_help::are_as_many(rt, words, 1, 9, 10)?;
+    words.are_taken(rt, Program::Lentilpot, b"")?;
+    let table = cli_names::of_kept(rt, Program::Lentilpot, words.word(2), b"TABLE")?;
+    setup_words(rt, words, table.as_str())
 }
 
-fn setup_words(table: &[u8]) -> Status {
-    let bank = cli_asked::who(Program::Lentilpot, 3, b"BANK", b"QUALIFIER");
-    if !bank.good {
-        return Status::Trouble;
-    }
-    let software = cli_asked::software(Program::Lentilpot, 5);
-    if !software.good {
-        return Status::Trouble;
-    }
-    let cli_words::Number::Is(floor) = cli_asked::digits(
-        Program::Lentilpot,
-        6,
-        1,
-        9,
-        b"FLOOR",
-        b"110 or 120",
-    ) else {
-        return Status::Trouble;
-    };
-    let cli_words::Block::Of(key) = cli_asked::key(Program::Lentilpot, 7, b"K") else {
-        return Status::Trouble;
-    };
-    let cli_words::Block::Of(seed) = cli_asked::key(Program::Lentilpot, 8, b"V") else {
-        return Status::Trouble;
-    };
-    let d = holidays::asked(9);
-    if !d.good {
-        return Status::Trouble;
-    }
-    let who = bank.who;
-    let name = software.name;
-    let s = table_calls::Setting {
-        bank: who,
-        software: name,
+fn setup_words(rt: &HostRuntime, words: &Words, table: &str) -> Result<Status, Told> {
+    let p = Program::Lentilpot;
+    let bank = cli_asked::who(rt, p, words.word(3), words.word(4), b"BANK", b"QUALIFIER")?;
+    let software = cli_asked::software(rt, p, words.word(5))?;
+    let floor = cli_asked::digits(rt, p, words.word(6), 1, 9, b"FLOOR", b"110 or 120")?;
+    let key = cli_asked::key(rt, p, words.word(7), b"K")?;
+    let seed = cli_asked::key(rt, p, words.word(8), b"V")?;
+    let d = holidays::asked(rt, words, 9)?;
+    let s = Setting {
+        bank,
+        software,
         floor,
         key,
         seed,
     };
-    set_up(table, s, d)
+    set_up(rt, table, &s, &d)
 }
 
-fn set_up(table: &[u8], s: table_calls::Setting, d: cli_words::Dates) -> Status {
-    let h = cli_held::take(Program::Lentilpot, table);
-    let r = h.run;
-    if r.process == 0 {
-        return Status::Trouble;
+fn set_up(
+    rt: &HostRuntime,
+    table: &str,
+    s: &Setting,
+    d: &cli_words::Dates,
+) -> Result<Status, Told> {
+    let h = cli_held::take(rt, Program::Lentilpot, table)?;
+    if let Err(told) = cli_table::is_free(rt, Program::Lentilpot, table) {
+        cli_held::release(rt, Program::Lentilpot, table, &h);
+        return Err(told);
     }
-    if !cli_table::is_free(Program::Lentilpot, table) {
-        cli_lock::release(Program::Lentilpot, table, r);
-        return Status::Trouble;
-    }
-    set_up_held(table, h, s, d)
+    set_up_held(rt, table, &h, s, d)
 }
 
-fn set_up_held(table: &[u8], h: Held, s: table_calls::Setting, d: cli_words::Dates) -> Status {
-    let r = h.run;
+fn set_up_held(
+    rt: &HostRuntime,
+    table: &str,
+    h: &Held,
+    s: &Setting,
+    d: &cli_words::Dates,
+) -> Result<Status, Told> {
     let mut t = [0u8; 49152];
-    let dates = d.dates;
-    let refusal = set_up_with(&mut t, s, &dates, d.count);
+    let refusal = set_up_with(&mut t, s, &d.dates, d.count);
     if refusal == 0 {
-        return saved(table, &t, h);
+        return saved(rt, table, &t, h);
     }
-    cli_lock::release(Program::Lentilpot, table, r);
+    cli_held::release(rt, Program::Lentilpot, table, h);
     if refusal == 11 {
-        return limits::answer_setup(s, d.count);
+        return limits::answer_setup(rt, s, d.count);
     }
-    cli_days::answer_setup(&dates, refusal)
+    cli_days::answer_setup(rt, &d.dates, refusal)
 }
 
 // The first n dates are the holidays.
-fn set_up_with(t: &mut [u8], s: table_calls::Setting, dates: &[u32], n: usize) -> u32 {
-    if dates.len() < n {
-        return 11;
+fn set_up_with(t: &mut [u8], s: &Setting, dates: &[u32], n: usize) -> u32 {
+    match dates.get(..n) {
+        Some(dates) => table_calls::set_up(t, *s, dates),
+        None => 11,
     }
-    table_calls::set_up(t, s, &dates[..n])
 }
 
 // ---- add
 
-// A changeover's length; where the word is left out, the number isn't used.
-fn length_of(i: usize) -> cli_words::Number {
-    if options::count() <= i {
-        return cli_words::Number::Is(0);
+// A changeover's length.
+fn length_of(rt: &HostRuntime, words: &Words, i: usize) -> Result<refusals::Length, Told> {
+    if words.count() <= i {
+        return Ok(refusals::Length::LeftOut);
     }
-    cli_asked::digits(Program::Lentilpot, i, 1, 9, b"LENGTH", b"days, 1 to 60")
+    let days = cli_asked::digits(
+        rt,
+        Program::Lentilpot,
+        words.word(i),
+        1,
+        9,
+        b"LENGTH",
+        b"days, 1 to 60",
+    )?;
+    Ok(refusals::Length::Given(calendar::CalendarDays(days)))
 }
 
-pub fn add() -> Status {
-    if !cli_help::are_as_many(2, 13, 14) {
-        return Status::Trouble;
-    }
-    if !options::are_taken(Program::Lentilpot, b"--later ") {
-        return Status::Trouble;
-    }
-    let mut table = io::buffer();
-    let n = cli_names::of_kept(Program::Lentilpot, 2, b"TABLE", &mut table);
-    if n == 0 {
-        return Status::Trouble;
-    }
-    add_words(&table[..n])
+pub fn add(rt: &HostRuntime, words: &Words) -> Result<Status, Told> {
+    cli_help::are_as_many(rt, words, 2, 13, 14)?;
+    words.are_taken(rt, Program::Lentilpot, b"--later ")?;
+    let table = cli_names::of_kept(rt, Program::Lentilpot, words.word(2), b"TABLE")?;
+    add_words(rt, words, table.as_str())
 }
 
-fn add_words(table: &[u8]) -> Status {
-    let k = asked_key();
-    if !k.good {
-        return Status::Trouble;
-    }
-    let cli_words::Number::Is(types) = cli_asked::types(Program::Lentilpot, 10) else {
-        return Status::Trouble;
-    };
-    let cli_words::Number::Is(agreed) = cli_asked::choice(Program::Lentilpot, 11, b"AGREED") else {
-        return Status::Trouble;
-    };
-    let cli_words::Number::Is(leave) = cli_asked::choice(Program::Lentilpot, 12, b"LEAVE") else {
-        return Status::Trouble;
-    };
-    let cli_words::Number::Is(days) = length_of(13) else {
-        return Status::Trouble;
-    };
-    let e = k.entering;
-    let today = e.today;
+fn add_words(rt: &HostRuntime, words: &Words, table: &str) -> Result<Status, Told> {
+    let p = Program::Lentilpot;
+    let e = asked_key(rt, words)?;
+    let types = cli_asked::types(rt, p, words.word(10))?;
+    let agreed = cli_asked::choice(rt, p, words.word(11), b"AGREED")?;
+    let leave = cli_asked::choice(rt, p, words.word(12), b"LEAVE")?;
+    let length = length_of(rt, words, 13)?;
     let who = e.who;
-    let length = if options::count() < 14 {
-        refusals::Length::LeftOut
-    } else {
-        refusals::Length::Given(calendar::CalendarDays(days))
-    };
-    let a = table_calls::Adding {
-        today,
+    let a = Adding {
+        today: e.today,
         who,
         part1: e.part1,
         part2: e.part2,
         check: e.check,
         generation: e.generation,
         types,
-        agreed: agreed == 1,
-        leave: leave == 1,
+        agreed,
+        leave,
         length,
     };
-    add_to(table, a)
+    add_to(rt, words, table, a)
 }
 
-fn add_to(table: &[u8], a: table_calls::Adding) -> Status {
-    let today = a.today;
+fn add_to(rt: &HostRuntime, words: &Words, table: &str, a: Adding) -> Result<Status, Told> {
     let mut t = [0u8; 49152];
-    let h = loaded(table, &mut t, today);
-    let r = h.run;
-    if r.process == 0 {
-        return Status::Trouble;
-    }
+    let h = loaded(rt, words, table, &mut t, a.today)?;
     let refusal = table_calls::add(&mut t, a);
     if refusal == 0 {
-        return saved(table, &t, h);
+        return saved(rt, table, &t, &h);
     }
     if refusal == 11 {
-        cli_lock::release(Program::Lentilpot, table, r);
-        return limits::answer_add(a);
+        cli_held::release(rt, Program::Lentilpot, table, &h);
+        return limits::answer_add(rt, &a);
     }
-    refused(table, &t, h, today, refusal)
+    refused(rt, table, &t, &h, a.today, refusal)
 }
 
 // ---- key
 
-// The words that `add` and `key` share.
-#[derive(Drop)]
-struct Entered {
-    good: bool,
-    entering: table_calls::Entering,
+// The words that `add` and `key` share: DATE IDENTITY QUALIFIER PART1 PART2 CHECK GENERATION, from word 3 on.
+fn asked_key(rt: &HostRuntime, words: &Words) -> Result<Entering, Told> {
+    let p = Program::Lentilpot;
+    let day = cli_asked::date(rt, p, words.word(3))?;
+    let who = cli_asked::who(
+        rt,
+        p,
+        words.word(4),
+        words.word(5),
+        b"IDENTITY",
+        b"QUALIFIER",
+    )?;
+    let part1 = cli_asked::key(rt, p, words.word(6), b"PART1")?;
+    let part2 = cli_asked::key(rt, p, words.word(7), b"PART2")?;
+    let check = cli_asked::check(rt, p, words.word(8))?;
+    let generation = cli_asked::generation(rt, p, words.word(9))?;
+    Ok(Entering {
+        today: Date { yymmdd: day },
+        who,
+        part1,
+        part2,
+        check,
+        generation,
+    })
 }
 
-fn no_key() -> Entered {
-    Entered {
-        good: false,
-        entering: table_calls::Entering {
-            today: calendar::Date { yymmdd: 0 },
-            who: [0; 25],
-            part1: 0,
-            part2: 0,
-            check: 0,
-            generation: 0,
-        },
-    }
+pub fn key(rt: &HostRuntime, words: &Words) -> Result<Status, Told> {
+    cli_help::are_as_many(rt, words, 3, 10, 10)?;
+    words.are_taken(rt, Program::Lentilpot, b"--later ")?;
+    let table = cli_names::of_kept(rt, Program::Lentilpot, words.word(2), b"TABLE")?;
+    let e = asked_key(rt, words)?;
+    enter(rt, words, table.as_str(), e)
 }
 
-// DATE IDENTITY QUALIFIER PART1 PART2 CHECK GENERATION, from word 3 on.
-fn asked_key() -> Entered {
-    let cli_words::Number::Is(day) = cli_asked::date(Program::Lentilpot, 3) else {
-        return no_key();
-    };
-    let customer = cli_asked::who(Program::Lentilpot, 4, b"IDENTITY", b"QUALIFIER");
-    if !customer.good {
-        return no_key();
-    }
-    let cli_words::Block::Of(part1) = cli_asked::key(Program::Lentilpot, 6, b"PART1") else {
-        return no_key();
-    };
-    let cli_words::Block::Of(part2) = cli_asked::key(Program::Lentilpot, 7, b"PART2") else {
-        return no_key();
-    };
-    let cli_words::Block::Of(check) = cli_asked::check(Program::Lentilpot, 8) else {
-        return no_key();
-    };
-    let cli_words::Number::Is(generation) = cli_asked::generation(Program::Lentilpot, 9) else {
-        return no_key();
-    };
-    let who = customer.who;
-    let today = calendar::Date { yymmdd: day };
-    Entered {
-        good: true,
-        entering: table_calls::Entering {
-            today,
-            who,
-            part1,
-            part2,
-            check,
-            generation,
-        },
-    }
-}
-
-pub fn key() -> Status {
-    if !cli_help::are_as_many(3, 10, 10) {
-        return Status::Trouble;
-    }
-    if !options::are_taken(Program::Lentilpot, b"--later ") {
-        return Status::Trouble;
-    }
-    let mut table = io::buffer();
-    let n = cli_names::of_kept(Program::Lentilpot, 2, b"TABLE", &mut table);
-    if n == 0 {
-        return Status::Trouble;
-    }
-    let k = asked_key();
-    if !k.good {
-        return Status::Trouble;
-    }
-    let e = k.entering;
-    enter(&table[..n], e)
-}
-
-fn enter(table: &[u8], e: table_calls::Entering) -> Status {
-    let today = e.today;
-    let who = e.who;
+fn enter(rt: &HostRuntime, words: &Words, table: &str, e: Entering) -> Result<Status, Told> {
     let mut t = [0u8; 49152];
-    let h = loaded(table, &mut t, today);
-    let r = h.run;
-    if r.process == 0 {
-        return Status::Trouble;
-    }
+    let h = loaded(rt, words, table, &mut t, e.today)?;
     let refusal = table_calls::enter(&mut t, e);
     if refusal == 0 {
-        return saved(table, &t, h);
+        return saved(rt, table, &t, &h);
     }
     if refusal == 12 {
-        cli_lock::release(Program::Lentilpot, table, r);
-        return limits::answer_transport(&t, who);
+        cli_held::release(rt, Program::Lentilpot, table, &h);
+        return limits::answer_transport(rt, &t, e.who);
     }
-    refused(table, &t, h, today, refusal)
+    refused(rt, table, &t, &h, e.today, refusal)
 }
 
 // ---- order
 
-pub fn order() -> Status {
-    if !cli_help::are_as_many(4, 7, 7) {
-        return Status::Trouble;
-    }
-    if !options::are_taken(Program::Lentilpot, b"--later ") {
-        return Status::Trouble;
-    }
-    let mut table = io::buffer();
-    let n = cli_names::of_kept(Program::Lentilpot, 2, b"TABLE", &mut table);
-    if n == 0 {
-        return Status::Trouble;
-    }
-    order_words(&table[..n])
+pub fn order(rt: &HostRuntime, words: &Words) -> Result<Status, Told> {
+    cli_help::are_as_many(rt, words, 4, 7, 7)?;
+    words.are_taken(rt, Program::Lentilpot, b"--later ")?;
+    let table = cli_names::of_kept(rt, Program::Lentilpot, words.word(2), b"TABLE")?;
+    order_words(rt, words, table.as_str())
 }
 
-fn order_words(table: &[u8]) -> Status {
-    let cli_words::Number::Is(day) = cli_asked::date(Program::Lentilpot, 3) else {
-        return Status::Trouble;
-    };
-    let customer = cli_asked::who(Program::Lentilpot, 4, b"IDENTITY", b"QUALIFIER");
-    if !customer.good {
-        return Status::Trouble;
-    }
-    let cli_words::Block::Of(clock) = cli_asked::key(Program::Lentilpot, 6, b"CLOCK") else {
-        return Status::Trouble;
-    };
-    let who = customer.who;
-    let today = calendar::Date { yymmdd: day };
-    let o = table_calls::Ordering { today, who, clock };
-    order_in(table, o)
+fn order_words(rt: &HostRuntime, words: &Words, table: &str) -> Result<Status, Told> {
+    let p = Program::Lentilpot;
+    let day = cli_asked::date(rt, p, words.word(3))?;
+    let who = cli_asked::who(
+        rt,
+        p,
+        words.word(4),
+        words.word(5),
+        b"IDENTITY",
+        b"QUALIFIER",
+    )?;
+    let clock = cli_asked::key(rt, p, words.word(6), b"CLOCK")?;
+    let today = Date { yymmdd: day };
+    order_in(rt, words, table, Ordering { today, who, clock })
 }
 
-fn order_in(table: &[u8], o: table_calls::Ordering) -> Status {
-    let today = o.today;
-    let who = o.who;
+fn order_in(rt: &HostRuntime, words: &Words, table: &str, o: Ordering) -> Result<Status, Told> {
     let mut t = [0u8; 49152];
-    let h = loaded(table, &mut t, today);
-    let r = h.run;
-    if r.process == 0 {
-        return Status::Trouble;
-    }
+    let h = loaded(rt, words, table, &mut t, o.today)?;
     let refusal = table_calls::order(&mut t, o);
     if refusal == 0 {
-        return saved(table, &t, h);
+        return saved(rt, table, &t, &h);
     }
     if refusal == 12 {
-        cli_lock::release(Program::Lentilpot, table, r);
-        return limits::answer_working(&t, who);
+        cli_held::release(rt, Program::Lentilpot, table, &h);
+        return limits::answer_working(rt, &t, o.who);
     }
-    refused(table, &t, h, today, refusal)
+    refused(rt, table, &t, &h, o.today, refusal)
 }

@@ -1,19 +1,28 @@
 // The listing, once the table is saved and the replies have their name: K or E and the code of each, or, where they are asked for, the
 // explanations. These are kept meanwhile in a file without a name, so that a run that is cut off leaves nothing of them.
-use cli_terminal::program::Program;
-use cli_terminal::status::Status;
-use cli_terminal::{options, say};
+#![tactic(auto)]
 
-// A file for the explanations: -1 where none are asked for, -2 and what is the matter where there can be none.
-pub fn begin(replies: &[u8]) -> i32 {
-    if !options::is_given(b"--explain") {
-        return -1;
+use cli_terminal::options::Words;
+use cli_terminal::program::Program;
+use cli_terminal::say;
+use cli_terminal::status::{Status, Told};
+use size_limit::Growing;
+use std::fs::File;
+use std::io;
+use std::io::Read;
+
+// A file for the explanations, where they are asked for.
+pub fn begin(rt: &HostRuntime, words: &Words, replies: &str) -> Result<Option<Growing>, Told> {
+    if !words.is_given(b"--explain") {
+        return Ok(None);
     }
-    cli_beside::nameless(
+    let file = cli_beside::nameless(
+        rt,
         Program::Lentilpot,
         b"nothing was changed: can't make a file for the explanations beside the replies",
         replies,
-    )
+    )?;
+    Ok(Some(Growing::new(rt, file)))
 }
 
 // ---- after the save
@@ -26,27 +35,26 @@ fn of_counts(refused: u64) -> Status {
 }
 
 // A file without any message: what was done is said, since nothing is listed.
-fn tell_none(file: &[u8], today: calendar::Date) {
+fn tell_none(rt: &HostRuntime, file: &str, today: calendar::Date) {
     let mut six = [0u8; 6];
     text::write_number(&mut six, today.yymmdd as u64);
     cli_beside::tell(
+        rt,
         Program::Lentilpot,
         file,
         b"no message stood in it, so there is no reply; the table's day is now ",
     );
-    say::err(&six);
-    say::err(b"\n");
+    say::err(rt, &six);
+    say::end_line(rt);
 }
 
 // ---- the replies, read back
 
-// How the listing goes: how many replies there were, how many of them are refusals, whether it ended, and whether all were read and listed.
-#[derive(Drop)]
+// How many replies there were, and how many of them are refusals.
+#[derive(Clone, Copy)]
 struct Listed {
     replies: u64,
     refused: u64,
-    is_ended: bool,
-    is_whole: bool,
 }
 
 // What the next reply of the file is.
@@ -55,107 +63,98 @@ enum Next {
     Accepted,
     Refused,
     End,
-    Unread,
-    Unwritten,
+    Unread(io::Error),
+    Unwritten(io::Error),
 }
 
-// Reads the replies back, as they were saved, counts them and, where they are to be shown, lists them.
-fn list_replies(fd: i32, replies: &[u8], is_shown: bool) -> Listed {
+// Reads the replies back, as they were saved, counts them and, where they are to be shown, lists them; what is the matter is told.
+fn list_replies(
+    rt: &HostRuntime,
+    file: &mut File,
+    replies: &str,
+    is_shown: bool,
+) -> Result<Listed, Told> {
     let mut l = Listed {
         replies: 0,
         refused: 0,
-        is_ended: false,
-        is_whole: false,
     };
-    let mut turns = u64::MAX;
-    while turns > 0 {
-        l = listed_one(fd, replies, is_shown, l);
-        if l.is_ended {
-            return l;
+    for _ in 0..u64::MAX {
+        match next_listed(rt, file, is_shown) {
+            Next::Accepted => l = more(l, 0),
+            Next::Refused => l = more(l, 1),
+            Next::End => return Ok(l),
+            Next::Unread(e) => {
+                tell_unread(rt, replies, &e);
+                return Err(Told);
+            }
+            Next::Unwritten(e) => {
+                tell_unwritten(rt, replies, &e);
+                return Err(Told);
+            }
         }
-        turns -= 1;
     }
-    l
+    Err(Told)
 }
 
-// One reply more, or the end, told where something is the matter.
-fn listed_one(fd: i32, replies: &[u8], is_shown: bool, l: Listed) -> Listed {
-    let next = next_listed(fd, is_shown);
-    match next {
-        Next::Accepted => more(l, 0),
-        Next::Refused => more(l, 1),
-        Next::End => ended(l, true),
-        Next::Unread => {
-            say::trouble(
-                Program::Lentilpot,
-                b"the table was saved and the replies are in this file, which can't be read back",
-                replies,
-            );
-            ended(l, false)
-        }
-        Next::Unwritten => {
-            say::of_file(
-                Program::Lentilpot,
-                replies,
-                b"",
-                b"the table was saved and the replies are in this file; they can't be listed: ",
-            );
-            os::fail(b"standard output");
-            ended(l, false)
-        }
-    }
+fn tell_unread(rt: &HostRuntime, replies: &str, e: &io::Error) {
+    say::trouble(
+        rt,
+        Program::Lentilpot,
+        b"the table was saved and the replies are in this file, which can't be read back",
+        replies,
+        e,
+    );
+}
+
+fn tell_unwritten(rt: &HostRuntime, replies: &str, e: &io::Error) {
+    say::of_file(
+        rt,
+        Program::Lentilpot,
+        replies,
+        "",
+        b"the table was saved and the replies are in this file; they can't be listed: ",
+    );
+    say::fail(rt, b"standard output", e);
 }
 
 fn more(l: Listed, refused: u64) -> Listed {
     Listed {
-        replies: std::num::wrapping_add_u64(l.replies, 1),
-        refused: std::num::wrapping_add_u64(l.refused, refused),
-        is_ended: false,
-        is_whole: false,
+        replies: l.replies.wrapping_add(1),
+        refused: l.refused.wrapping_add(refused),
     }
 }
 
-fn ended(l: Listed, is_whole: bool) -> Listed {
-    Listed {
-        replies: l.replies,
-        refused: l.refused,
-        is_ended: true,
-        is_whole,
+// Reads as much as the room takes; false at the file's end.
+fn read_whole<R: Read>(input: &mut R, room: &mut [u8]) -> io::Result<bool> {
+    let size = room.len();
+    let got = cli_files::read_full(input, room);
+    if got == size {
+        return Ok(true);
     }
-}
-
-// Reads as much as the room takes; how much, or -1 where a read fails.
-fn read_whole(fd: i32, room: &mut [u8]) -> isize {
-    let n = room.len();
-    let got = io::read_full(fd, room);
-    if got == n {
-        return 1;
+    if got == 0 && input.read(&mut [0u8; 1])? == 0 {
+        return Ok(false);
     }
-    let mut over = [0u8; 1];
-    if got == 0 && libc::read(fd, &mut over) == 0 {
-        return 0;
-    }
-    -1
+    Err(io::Error::from(io::ErrorKind::UnexpectedEof))
 }
 
 // The next reply: K or E and the code.
-fn next_listed(fd: i32, is_shown: bool) -> Next {
+fn next_listed(rt: &HostRuntime, file: &mut File, is_shown: bool) -> Next {
     let mut head = [0u8; 16];
-    let got = read_whole(fd, &mut head);
-    if got == 0 {
-        return Next::End;
+    match read_whole(file, &mut head) {
+        Ok(true) => {}
+        Ok(false) => return Next::End,
+        Err(e) => return Next::Unread(e),
     }
-    if got < 0 {
-        return Next::Unread;
-    }
-    if !is_rest_read(fd, head[2]) {
-        return Next::Unread;
+    if let Err(e) = read_rest(file, head[2]) {
+        return Next::Unread(e);
     }
     let line = [
         head[11], b' ', head[12], head[13], head[14], head[15], b'\n',
     ];
-    if is_shown && !say::out(&line) {
-        return Next::Unwritten;
+    if is_shown {
+        if let Err(e) = say::out(rt, &line) {
+            return Next::Unwritten(e);
+        }
     }
     if head[11] == b'K' {
         return Next::Accepted;
@@ -164,51 +163,59 @@ fn next_listed(fd: i32, is_shown: bool) -> Next {
 }
 
 // The rest of an ESI of 237 or of a PTE of 317 characters, and its LF.
-fn is_rest_read(fd: i32, kind: u8) -> bool {
-    if kind == b'E' {
-        let mut rest = [0u8; 222];
-        return read_whole(fd, &mut rest) == 1;
+fn read_rest(file: &mut File, kind: u8) -> io::Result<()> {
+    let is_whole = if kind == b'E' {
+        read_whole(file, &mut [0u8; 222])?
+    } else {
+        read_whole(file, &mut [0u8; 302])?
+    };
+    if is_whole {
+        return Ok(());
     }
-    let mut rest = [0u8; 302];
-    read_whole(fd, &mut rest) == 1
+    Err(io::Error::from(io::ErrorKind::UnexpectedEof))
 }
 
 // ---- the explanations
 
-fn is_explained(explanations: i32, replies: &[u8]) -> bool {
-    if explanations < 0 {
-        return true;
-    }
-    let is_whole = cli_beside::is_copied(explanations);
-    if !is_whole {
+fn is_explained(
+    rt: &HostRuntime,
+    explanations: Option<Growing>,
+    replies: &str,
+) -> Result<(), Told> {
+    let Some(mut explanations) = explanations else {
+        return Ok(());
+    };
+    cli_beside::is_copied(rt, explanations.file_mut()).map_err(|e| {
         say::trouble(
+            rt,
             Program::Lentilpot,
             b"the table was saved and the replies are in this file; the explanations can't be listed",
             replies,
+            &e,
         );
-    }
-    libc::close(explanations);
-    is_whole
+        Told
+    })
 }
 
 // Lists the replies; the status says whether some are refusals, or something could not be listed.
 pub fn list(
-    listed: i32,
-    explanations: i32,
-    replies: &[u8],
-    file: &[u8],
+    rt: &HostRuntime,
+    listed: io::Result<File>,
+    explanations: Option<Growing>,
+    replies: &str,
+    file: &str,
     today: calendar::Date,
-) -> Status {
-    let l = list_replies(listed, replies, explanations < 0);
-    libc::close(listed);
-    if !l.is_whole {
-        return Status::Trouble;
-    }
-    if !is_explained(explanations, replies) {
-        return Status::Trouble;
-    }
+) -> Result<Status, Told> {
+    let l = match listed {
+        Ok(mut listed) => list_replies(rt, &mut listed, replies, explanations.is_none())?,
+        Err(e) => {
+            tell_unread(rt, replies, &e);
+            return Err(Told);
+        }
+    };
+    is_explained(rt, explanations, replies)?;
     if l.replies == 0 {
-        tell_none(file, today);
+        tell_none(rt, file, today);
     }
-    of_counts(l.refused)
+    Ok(of_counts(l.refused))
 }

@@ -1,231 +1,249 @@
 // One run on a table (or a desk, and messages for replies: `cli_terminal` says which) at a time: TABLE.lock is made only if it is missing and says which run has the table, and for `receive` the
 // name of the replies once TABLE.new is there. A lock that a dead process left is never taken over, since two runs could both do
 // so: its mend is told.
+#![tactic(auto)]
+
 pub mod underway;
 
 use cli_run::Run;
 use cli_terminal::program::Program;
 use cli_terminal::say;
+use cli_terminal::status::Told;
+use size_limit::Growing;
+use std::fs::{File, OpenOptions};
+use std::io;
+use std::io::{ErrorKind, Write};
 
-// Takes the table; nobody where it can't be had, and who has it is told.
-pub fn take(p: Program, table: &[u8]) -> Run {
-    let r = cli_run::begun(p);
-    if r.process == 0 {
-        return r;
+// Takes the table; where it can't be had, who has it is told.
+pub fn take(rt: &HostRuntime, p: Program, table: &str) -> Result<Run, Told> {
+    let r = cli_run::begun(rt, p)?;
+    match cli_beside::make(rt, table, ".lock") {
+        Ok(file) => sign(rt, p, table, file, &r)?,
+        Err(e) => {
+            tell_unmade(rt, p, table, &e);
+            return Err(Told);
+        }
     }
-    let fd = cli_beside::make(table, b".lock");
-    if fd < 0 {
-        tell_unmade(p, table);
-        return cli_run::nobody();
-    }
-    let line = cli_run::line(r);
-    let is_signed = io::write_all(fd, &line) && libc::fsync(fd) == 0;
-    libc::close(fd);
-    if !is_signed {
-        say::trouble_beside(p, b"can't write the lock", table, b".lock");
-        cli_beside::remove(table, b".lock");
-        return cli_run::nobody();
-    }
-    r
+    Ok(r)
 }
 
-fn tell_unmade(p: Program, table: &[u8]) {
-    if os::errno() == libc::EEXIST {
-        tell(p, table);
+// Says in the lock whose it is.
+fn sign(rt: &HostRuntime, p: Program, table: &str, file: File, r: &Run) -> Result<(), Told> {
+    let mut lock = Growing::new(rt, file);
+    put_run(&mut lock, r).map_err(|e| {
+        say::trouble_beside(rt, p, b"can't write the lock", table, ".lock", &e);
+        let _ = cli_beside::remove(rt, table, ".lock");
+        Told
+    })
+}
+
+fn put_run(lock: &mut Growing, r: &Run) -> io::Result<()> {
+    lock.write_all(&cli_run::line(r))?;
+    lock.file().sync_all()
+}
+
+fn tell_unmade(rt: &HostRuntime, p: Program, table: &str, e: &io::Error) {
+    if e.kind() == ErrorKind::AlreadyExists {
+        tell(rt, p, table);
         return;
     }
     say::trouble_beside(
+        rt,
         p,
         b"can't lock the $k, expected a folder that can be written",
         table,
-        b".lock",
+        ".lock",
+        e,
     );
 }
 
 // Removes the lock, if it is still this run's.
-pub fn release(p: Program, table: &[u8], r: Run) {
-    if !is_of(table, r) {
+pub fn release(rt: &HostRuntime, p: Program, table: &str, r: &Run) {
+    if !is_of(rt, table, r) {
         return;
     }
-    if !cli_beside::remove(table, b".lock") {
-        say::trouble_beside(p, b"can't remove the lock", table, b".lock");
+    if let Err(e) = cli_beside::remove(rt, table, ".lock") {
+        say::trouble_beside(rt, p, b"can't remove the lock", table, ".lock", &e);
     }
 }
 
 // Whether the table is still this run's; told where it isn't.
-pub fn is_held(p: Program, table: &[u8], r: Run) -> bool {
-    let is_so = is_of(table, r);
-    if !is_so {
-        cli_beside::tell(
-            p,
-            table,
-            b"nothing was changed: the lock was removed, or its folder moved, while the run was under way\n",
-        );
+pub fn is_held(rt: &HostRuntime, p: Program, table: &str, r: &Run) -> Result<(), Told> {
+    if is_of(rt, table, r) {
+        return Ok(());
     }
-    is_so
+    cli_beside::tell(
+        rt,
+        p,
+        table,
+        b"nothing was changed: the lock was removed, or its folder moved, while the run was under way\n",
+    );
+    Err(Told)
 }
 
 // Names the replies in the lock: from here on a missing TABLE.new says that the table was saved.
-pub fn name_replies(table: &[u8], replies: &[u8]) -> bool {
-    let mut path = io::buffer();
-    let n = cli_beside::beside(&mut path, table, b".lock");
-    let fd = os::open_append(&path[..n]);
-    if fd < 0 {
-        return false;
-    }
-    let is_named = put_line(fd, replies);
-    libc::close(fd);
-    is_named
+pub fn name_replies(rt: &HostRuntime, table: &str, replies: &str) -> io::Result<()> {
+    let path = cli_beside::beside(rt, table, ".lock")?;
+    let file = OpenOptions::new().append(true).open(rt, path)?;
+    let mut lock = Growing::at_end(rt, file)?;
+    put_line(&mut lock, replies)
 }
 
-fn put_line(fd: i32, replies: &[u8]) -> bool {
-    if !io::write_all(fd, replies) {
-        return false;
-    }
-    if !io::write_all(fd, b"\n") {
-        return false;
-    }
-    libc::fsync(fd) == 0
+fn put_line(lock: &mut Growing, replies: &str) -> io::Result<()> {
+    lock.write_all(replies.as_bytes())?;
+    lock.write_all(b"\n")?;
+    lock.file().sync_all()
 }
 
-// Cuts the replies' name off again, in one step; whether that has reached the disk, before TABLE.new goes.
-pub fn is_unnamed(table: &[u8]) -> bool {
-    let mut path = io::buffer();
-    let n = cli_beside::beside(&mut path, table, b".lock");
-    let fd = os::open_update(&path[..n]);
-    if fd < 0 {
-        return false;
-    }
-    let is_cut = libc::ftruncate(fd, 28) == 0 && libc::fsync(fd) == 0;
-    libc::close(fd);
-    is_cut
+// Cuts the replies' name off again, in one step, which has to reach the disk before TABLE.new goes.
+pub fn is_unnamed(rt: &HostRuntime, table: &str) -> io::Result<()> {
+    let path = cli_beside::beside(rt, table, ".lock")?;
+    let file = OpenOptions::new().read(true).write(true).open(rt, path)?;
+    file.set_len(28)?;
+    file.sync_all()
 }
 
 // ---- a lock that is there
 
-fn tell(p: Program, table: &[u8]) {
-    let mut lock = io::large_buffer();
-    let n = cli_beside::read_beside(table, b".lock", &mut lock);
-    let r = cli_run::read(&lock[..n]);
-    if r.process == 0 {
-        tell_unsigned(p, table);
+fn tell(rt: &HostRuntime, p: Program, table: &str) {
+    let mut lock = [0u8; 65536];
+    let n = cli_beside::read_beside(rt, table, ".lock", &mut lock);
+    let Some(r) = cli_run::read(&lock[..n]) else {
+        tell_unsigned(rt, p, table);
+        return;
+    };
+    if cli_run::is_living(rt, &r) {
+        tell_living(rt, p, table, &r);
         return;
     }
-    if cli_run::is_living(r) {
-        tell_living(p, table, r);
-        return;
-    }
-    say::of_file(p, table, b".lock", b"left by ");
-    cli_run::tell(r);
-    say::err(b", which runs no more and ");
-    let name = cli_run::name(&lock[..n]);
-    if cli_asked::has_control(name) {
-        say::told(
+    say::of_file(rt, p, table, ".lock", b"left by ");
+    cli_run::tell(rt, &r);
+    say::err(rt, b", which runs no more and ");
+    match name_of(cli_run::name(&lock[..n])) {
+        Some(replies) => tell_mend(rt, p, table, replies, &r),
+        None => say::told(
+            rt,
             p,
             b"names its $w with control characters: nothing can be told of it\n",
-        );
-        return;
+        ),
     }
-    tell_mend(p, table, name, r);
+}
+
+// A name that can be told in one line.
+fn name_of(bytes: &[u8]) -> Option<&str> {
+    if cli_asked::has_control(bytes) {
+        return None;
+    }
+    str::from_utf8(bytes).ok()
 }
 
 // Whether the lock of a table is of that run.
-pub fn is_of(table: &[u8], r: Run) -> bool {
-    let mut lock = io::large_buffer();
-    let n = cli_beside::read_beside(table, b".lock", &mut lock);
-    cli_run::is_same(cli_run::read(&lock[..n]), r)
+pub fn is_of(rt: &HostRuntime, table: &str, r: &Run) -> bool {
+    let mut lock = [0u8; 65536];
+    let n = cli_beside::read_beside(rt, table, ".lock", &mut lock);
+    cli_run::read(&lock[..n]) == Some(*r)
 }
 
 // The lock's own name ends what is to be typed.
-fn end_at_lock(table: &[u8]) {
-    say::quoted(table, b".lock");
-    say::end_line();
+fn end_at_lock(rt: &HostRuntime, table: &str) {
+    say::quoted(rt, table.as_bytes(), b".lock");
+    say::end_line(rt);
 }
 
 // A lock that no run of this program has signed.
-fn tell_unsigned(p: Program, table: &[u8]) {
-    if !cli_beside::is_readable(table, b".lock") {
+fn tell_unsigned(rt: &HostRuntime, p: Program, table: &str) {
+    if let Err(e) = cli_beside::is_readable(rt, table, ".lock") {
         say::trouble_beside(
+            rt,
             p,
             b"the $k is in use, and nothing was changed: can't read the lock",
             table,
-            b".lock",
+            ".lock",
+            &e,
         );
         return;
     }
-    if !cli_beside::is_empty(table, b".lock") {
+    if !cli_beside::is_empty(rt, table, ".lock") {
         say::of_file(
+            rt,
             p,
             table,
-            b".lock",
+            ".lock",
             b"the $k is in use, by a lock that this program did not write, and nothing was changed; whoever wrote it knows its mend\n",
         );
         return;
     }
     cli_beside::tell(
+        rt,
         p,
         table,
         b"in use by a run that has just begun, and nothing was changed; if no $p runs on it, that run did nothing. To mend: rm",
     );
-    end_at_lock(table);
+    end_at_lock(rt, table);
 }
 
-fn tell_living(p: Program, table: &[u8], r: Run) {
-    cli_beside::tell(p, table, b"the $k is in use by ");
-    cli_run::tell(r);
-    say::err(b", and nothing was changed; try again when it has ended\n");
+fn tell_living(rt: &HostRuntime, p: Program, table: &str, r: &Run) {
+    cli_beside::tell(rt, p, table, b"the $k is in use by ");
+    cli_run::tell(rt, r);
+    say::err(
+        rt,
+        b", and nothing was changed; try again when it has ended\n",
+    );
 }
 
 // What is the case with the table after a run that was cut off, and what to type.
-pub fn tell_mend(p: Program, table: &[u8], replies: &[u8], r: Run) {
-    if cli_beside::is_there(table, b".new") {
+pub fn tell_mend(rt: &HostRuntime, p: Program, table: &str, replies: &str, r: &Run) {
+    if cli_beside::is_there(rt, table, ".new") {
         // TABLE.new goes last: without it the lock would say that the table was saved
-        tell_unchanged(p, table, replies, r);
+        tell_unchanged(rt, p, table, replies, r);
         return;
     }
-    if replies.len() == 0 {
-        say::told(p, b"may have changed the $k: 'show' tells. To mend: rm");
+    if replies.is_empty() {
+        say::told(rt, p, b"may have changed the $k: 'show' tells. To mend: rm");
     } else {
-        tell_saved(p, replies, r);
+        tell_saved(rt, p, replies, r);
     }
-    end_at_lock(table);
+    end_at_lock(rt, table);
 }
 
-fn tell_unchanged(p: Program, table: &[u8], replies: &[u8], r: Run) {
-    say::told(p, b"did not change the $k. To mend: ");
-    if underway::is_of(replies, r) {
-        say::err(b"rm -f");
-        say::quoted(replies, b".new");
-        say::quoted(replies, b".run");
-        say::err(b" && ");
+fn tell_unchanged(rt: &HostRuntime, p: Program, table: &str, replies: &str, r: &Run) {
+    say::told(rt, p, b"did not change the $k. To mend: ");
+    if underway::is_of(rt, replies, r) {
+        say::err(rt, b"rm -f");
+        say::quoted(rt, replies.as_bytes(), b".new");
+        say::quoted(rt, replies.as_bytes(), b".run");
+        say::err(rt, b" && ");
     }
-    say::err(b"rm");
-    say::quoted(table, b".lock");
-    say::err(b" && rm");
-    say::quoted(table, b".new");
-    say::end_line();
+    say::err(rt, b"rm");
+    say::quoted(rt, table.as_bytes(), b".lock");
+    say::err(rt, b" && rm");
+    say::quoted(rt, table.as_bytes(), b".new");
+    say::end_line(rt);
 }
 
-fn tell_saved(p: Program, replies: &[u8], r: Run) {
-    if !underway::is_of(replies, r) && !cli_beside::is_there(replies, b"") {
-        say::told(p, b"saved the $k; its $w are no longer in");
-        say::quoted(replies, b"");
-        say::err(b", nor said to be under way: look for them. To mend: rm");
+fn tell_saved(rt: &HostRuntime, p: Program, replies: &str, r: &Run) {
+    if !underway::is_of(rt, replies, r) && !cli_beside::is_there(rt, replies, "") {
+        say::told(rt, p, b"saved the $k; its $w are no longer in");
+        say::quoted(rt, replies.as_bytes(), b"");
+        say::err(
+            rt,
+            b", nor said to be under way: look for them. To mend: rm",
+        );
         return;
     }
-    if !underway::is_of(replies, r) {
-        say::told(p, b"saved the $k; its $w are in");
-        say::quoted(replies, b"");
-        say::err(b". To mend: rm");
+    if !underway::is_of(rt, replies, r) {
+        say::told(rt, p, b"saved the $k; its $w are in");
+        say::quoted(rt, replies.as_bytes(), b"");
+        say::err(rt, b". To mend: rm");
         return;
     }
-    if !cli_beside::is_there(replies, b".new") {
-        say::told(p, b"saved the $k; its $w are in");
-        say::quoted(replies, b"");
-        say::err(b". To mend: rm");
-        say::quoted(replies, b".run");
+    if !cli_beside::is_there(rt, replies, ".new") {
+        say::told(rt, p, b"saved the $k; its $w are in");
+        say::quoted(rt, replies.as_bytes(), b"");
+        say::err(rt, b". To mend: rm");
+        say::quoted(rt, replies.as_bytes(), b".run");
         return;
     }
-    say::told(p, b"saved the $k; its $w stand");
-    underway::tell_move(replies, r);
+    say::told(rt, p, b"saved the $k; its $w stand");
+    underway::tell_move(rt, replies, r);
 }

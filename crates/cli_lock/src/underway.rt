@@ -3,177 +3,187 @@
 use cli_run::Run;
 use cli_terminal::program::Program;
 use cli_terminal::say;
+use cli_terminal::status::Told;
+use size_limit::Growing;
+use std::fs::File;
+use std::io;
+use std::io::{ErrorKind, Write};
 
 // Whether the replies under way are of that run.
-pub fn is_of(replies: &[u8], r: Run) -> bool {
-    if replies.len() == 0 {
+pub fn is_of(rt: &HostRuntime, replies: &str, r: &Run) -> bool {
+    if replies.is_empty() {
         return false;
     }
-    let mut file = io::large_buffer();
-    let n = cli_beside::read_beside(replies, b".run", &mut file);
-    cli_run::is_same(cli_run::read(&file[..n]), r)
+    let mut file = [0u8; 65536];
+    let n = cli_beside::read_beside(rt, replies, ".run", &mut file);
+    cli_run::read(&file[..n]) == Some(*r)
 }
 
-fn is_written(fd: i32, table: &[u8], r: Run) -> bool {
-    let line = cli_run::line(r);
-    if !io::write_all(fd, &line) {
-        return false;
-    }
-    if !io::write_all(fd, table) {
-        return false;
-    }
-    if !io::write_all(fd, b"\n") {
-        return false;
-    }
-    libc::fsync(fd) == 0
+fn is_written(rt: &HostRuntime, file: File, table: &str, r: &Run) -> io::Result<()> {
+    let mut file = Growing::new(rt, file);
+    file.write_all(&cli_run::line(r))?;
+    file.write_all(table.as_bytes())?;
+    file.write_all(b"\n")?;
+    file.file().sync_all()
 }
 
 // Takes the replies' name for this run, or says who has it.
-pub fn begin(p: Program, replies: &[u8], table: &[u8], r: Run) -> bool {
-    let fd = cli_beside::make(replies, b".run");
-    if fd < 0 {
-        tell_unmade(p, replies);
-        return false;
-    }
-    let is_whole = is_written(fd, table, r);
-    libc::close(fd);
-    if !is_whole {
+pub fn begin(
+    rt: &HostRuntime,
+    p: Program,
+    replies: &str,
+    table: &str,
+    r: &Run,
+) -> Result<(), Told> {
+    let file = match cli_beside::make(rt, replies, ".run") {
+        Ok(file) => file,
+        Err(e) => {
+            tell_unmade(rt, p, replies, &e);
+            return Err(Told);
+        }
+    };
+    is_written(rt, file, table, r).map_err(|e| {
         say::trouble_beside(
+            rt,
             p,
             b"nothing was changed: can't write who makes the $w",
             replies,
-            b".run",
+            ".run",
+            &e,
         );
-        cli_beside::remove(replies, b".run");
-        cli_beside::flush_folder(replies);
-    }
-    is_whole
+        let _ = cli_beside::remove(rt, replies, ".run");
+        let _ = cli_beside::flush_folder(rt, replies);
+        Told
+    })
 }
 
 // Gives the replies' name up, if it is still this run's; on the disk too before the lock says less than it did.
-pub fn end(p: Program, replies: &[u8], r: Run) {
-    if !is_of(replies, r) {
+pub fn end(rt: &HostRuntime, p: Program, replies: &str, r: &Run) {
+    if !is_of(rt, replies, r) {
         return;
     }
-    if !cli_beside::remove(replies, b".run") {
-        say::trouble_beside(p, b"can't remove", replies, b".run");
+    if let Err(e) = cli_beside::remove(rt, replies, ".run") {
+        say::trouble_beside(rt, p, b"can't remove", replies, ".run", &e);
     }
-    cli_beside::flush_folder(replies);
+    let _ = cli_beside::flush_folder(rt, replies);
 }
 
-fn tell_unmade(p: Program, replies: &[u8]) {
-    if os::errno() != libc::EEXIST {
-        say::trouble_beside(p, b"can't make the $w", replies, b".run");
+fn tell_unmade(rt: &HostRuntime, p: Program, replies: &str, e: &io::Error) {
+    if e.kind() != ErrorKind::AlreadyExists {
+        say::trouble_beside(rt, p, b"can't make the $w", replies, ".run", e);
         return;
     }
-    let mut file = io::large_buffer();
-    let n = cli_beside::read_beside(replies, b".run", &mut file);
-    let r = cli_run::read(&file[..n]);
-    let table = cli_run::name(&file[..n]);
-    if r.process == 0 || cli_asked::has_control(table) {
-        tell_unsigned(p, replies);
-        return;
+    let mut file = [0u8; 65536];
+    let n = cli_beside::read_beside(rt, replies, ".run", &mut file);
+    let table = crate::name_of(cli_run::name(&file[..n]));
+    match (cli_run::read(&file[..n]), table) {
+        (Some(r), Some(table)) => tell_other(rt, p, replies, table, &r),
+        _ => tell_unsigned(rt, p, replies),
     }
-    tell_other(p, replies, table, r);
 }
 
-fn tell_unsigned(p: Program, replies: &[u8]) {
-    if !cli_beside::is_readable(replies, b".run") {
+fn tell_unsigned(rt: &HostRuntime, p: Program, replies: &str) {
+    if let Err(e) = cli_beside::is_readable(rt, replies, ".run") {
         say::trouble_beside(
+            rt,
             p,
             b"nothing was changed: $w of that name are under way, and it can't be read whose",
             replies,
-            b".run",
+            ".run",
+            &e,
         );
         return;
     }
-    if !cli_beside::is_empty(replies, b".run") {
+    if !cli_beside::is_empty(rt, replies, ".run") {
         say::of_file(
+            rt,
             p,
             replies,
-            b".run",
+            ".run",
             b"there is a file already, which this program did not write; nothing was changed: choose another name for $W\n",
         );
         return;
     }
     say::of_file(
+        rt,
         p,
         replies,
-        b".run",
+        ".run",
         b"of a run that has just begun, and nothing was changed; if no $p runs, that run did nothing. To mend: rm",
     );
-    say::quoted(replies, b".run");
-    say::end_line();
+    say::quoted(rt, replies.as_bytes(), b".run");
+    say::end_line(rt);
 }
 
 // Replies of a run that is known: it lives, or its table's lock tells what is the case, or that lock is gone.
-fn tell_other(p: Program, replies: &[u8], table: &[u8], r: Run) {
-    say::of_file(p, replies, b".run", b"nothing was changed: ");
-    cli_run::tell(r);
-    say::told(p, b", a run on the $k");
-    say::quoted(table, b"");
-    if cli_run::is_living(r) {
+fn tell_other(rt: &HostRuntime, p: Program, replies: &str, table: &str, r: &Run) {
+    say::of_file(rt, p, replies, ".run", b"nothing was changed: ");
+    cli_run::tell(rt, r);
+    say::told(rt, p, b", a run on the $k");
+    say::quoted(rt, table.as_bytes(), b"");
+    if cli_run::is_living(rt, r) {
         say::told(
+            rt,
             p,
             b", makes these $w: choose another name for $W, or try again when it has ended\n",
         );
         return;
     }
-    say::err(b", runs no more and ");
-    if crate::is_of(table, r) {
-        crate::tell_mend(p, table, replies, r);
+    say::err(rt, b", runs no more and ");
+    if crate::is_of(rt, table, r) {
+        crate::tell_mend(rt, p, table, replies, r);
         return;
     }
-    tell_unsure(p, replies, r);
+    tell_unsure(rt, p, replies, r);
 }
 
-fn tell_unsure(p: Program, replies: &[u8], r: Run) {
+fn tell_unsure(rt: &HostRuntime, p: Program, replies: &str, r: &Run) {
     say::told(
+        rt,
         p,
         b"its lock was removed, so whether that $k was saved can't be told",
     );
-    if cli_beside::is_there(replies, b".new") {
-        say::told(p, b"; send none of these $w unless 'show' $s");
-        tell_aside(replies, r);
+    if cli_beside::is_there(rt, replies, ".new") {
+        say::told(rt, p, b"; send none of these $w unless 'show' $s");
+        tell_aside(rt, replies, r);
     } else {
-        say::err(b". To mend: rm");
-        say::quoted(replies, b".run");
+        say::err(rt, b". To mend: rm");
+        say::quoted(rt, replies.as_bytes(), b".run");
     }
-    say::end_line();
+    say::end_line(rt);
 }
 
 // What to type so that the replies of a saved table get their name, or a free one where another file has it by now. An empty one is the
 // run's own, made just before it was cut off.
-pub fn tell_move(replies: &[u8], r: Run) {
-    if cli_beside::is_empty(replies, b"") {
-        say::err(b". To mend: mv");
-        tell_moved(replies, b"");
+pub fn tell_move(rt: &HostRuntime, replies: &str, r: &Run) {
+    if cli_beside::is_empty(rt, replies, "") {
+        say::err(rt, b". To mend: mv");
+        tell_moved(rt, replies, b"");
         return;
     }
-    if cli_beside::is_there(replies, b"") {
-        say::err(b", and another file has their name by now");
-        tell_aside(replies, r);
+    if cli_beside::is_there(rt, replies, "") {
+        say::err(rt, b", and another file has their name by now");
+        tell_aside(rt, replies, r);
         return;
     }
-    tell_free(replies, b"");
+    tell_free(rt, replies, b"");
 }
 
-fn tell_aside(replies: &[u8], r: Run) {
-    let ending = cli_run::ending(r);
-    tell_free(replies, &ending);
+fn tell_aside(rt: &HostRuntime, replies: &str, r: &Run) {
+    tell_free(rt, replies, &cli_run::ending(r));
 }
 
 // `mv -n` alone would say that all went well where it did nothing.
-fn tell_free(replies: &[u8], ending: &[u8]) {
-    say::err(b". To mend: test ! -e");
-    say::quoted(replies, ending);
-    say::err(b" && mv -n");
-    tell_moved(replies, ending);
+fn tell_free(rt: &HostRuntime, replies: &str, ending: &[u8]) {
+    say::err(rt, b". To mend: test ! -e");
+    say::quoted(rt, replies.as_bytes(), ending);
+    say::err(rt, b" && mv -n");
+    tell_moved(rt, replies, ending);
 }
 
-fn tell_moved(replies: &[u8], ending: &[u8]) {
-    say::quoted(replies, b".new");
-    say::quoted(replies, ending);
-    say::err(b" && rm");
-    say::quoted(replies, b".run");
+fn tell_moved(rt: &HostRuntime, replies: &str, ending: &[u8]) {
+    say::quoted(rt, replies.as_bytes(), b".new");
+    say::quoted(rt, replies.as_bytes(), ending);
+    say::err(rt, b" && rm");
+    say::quoted(rt, replies.as_bytes(), b".run");
 }

@@ -1,150 +1,122 @@
 // Names of files, made whole at the start: what is told and kept of them is then right from any folder, and begins with no dash.
-ghost use Rattle.io.specs.Counts.{IsPrefixLen};
+#![tactic(auto)]
 
 use cli_terminal::program::Program;
-use cli_terminal::{options, say};
+use cli_terminal::say;
+use cli_terminal::status::Told;
 
 // The folder that the program runs in, and a slash.
-fn here(room: &mut [u8]) -> usize
-    ensures { IsPrefixLen result room.new }
-{
-    let mut folder = io::buffer();
-    let n = cli_files::link_text(b"/proc/self/cwd", &mut folder);
-    if n == 0 {
-        return 0;
-    }
-    cli_beside::beside(room, &folder[..n], b"/")
+fn here(rt: &HostRuntime) -> Option<String> {
+    let folder = cli_files::link_text(rt, "/proc/self/cwd").ok()?;
+    cli_beside::beside(rt, folder.as_str(), "/").ok()
 }
 
-fn is_whole(word: &[u8]) -> bool {
-    if word.len() == 0 {
-        return false;
-    }
-    word[0] == b'/'
+fn is_whole(word: &str) -> bool {
+    word.starts_with('/')
+}
+
+// A name that there is room for.
+fn made(
+    rt: &HostRuntime,
+    p: Program,
+    label: &[u8],
+    name: &str,
+    ending: &str,
+) -> Result<String, Told> {
+    cli_beside::beside(rt, name, ending).map_err(|e| {
+        say::begin_line(rt, p);
+        say::fail(rt, label, &e);
+        Told
+    })
 }
 
 // A name below the folder that the program runs in, or what is the matter.
-fn below_here(p: Program, label: &[u8], word: &[u8], room: &mut [u8]) -> usize
-    ensures { IsPrefixLen result room.new }
-{
-    let mut folder = io::buffer();
-    let n = here(&mut folder);
-    if n == 0 {
+fn below_here(rt: &HostRuntime, p: Program, label: &[u8], word: &str) -> Result<String, Told> {
+    let Some(folder) = here(rt) else {
         say::expected(
+            rt,
             p,
             label,
             b"a name that begins with '/', since the system doesn't tell which folder this is",
         );
-        return 0;
-    }
-    let k = cli_beside::beside(room, &folder[..n], word);
-    if k == 0 {
-        say::expected(
-            p,
-            label,
-            b"a name of at most 4000 bytes, its folders counted",
-        );
-    }
-    k
+        return Err(Told);
+    };
+    made(rt, p, label, folder.as_str(), word)
 }
 
-// The whole name that a word gives, at the start of the room, or nothing and what is the matter.
-fn of_word(p: Program, label: &[u8], word: &[u8], room: &mut [u8]) -> usize
-    ensures { IsPrefixLen result room.new }
-{
-    if !cli_asked::is_file(p, label, word) {
-        return 0;
-    }
+// The whole name that a word gives, or what is the matter.
+fn of_word(rt: &HostRuntime, p: Program, label: &[u8], word: &[u8]) -> Result<String, Told> {
+    cli_asked::is_file(rt, p, label, word)?;
+    let word = cli_asked::in_utf8(rt, p, label, word)?;
     if is_whole(word) {
-        return cli_beside::beside(room, word, b"");
+        return made(rt, p, label, word, "");
     }
-    below_here(p, label, word, room)
+    below_here(rt, p, label, word)
 }
 
-// Word i as a file's whole name, or nothing and what is the matter.
-pub fn of(p: Program, i: usize, label: &[u8], room: &mut [u8]) -> usize
-    ensures { IsPrefixLen result room.new }
-{
-    let mut word = io::buffer();
-    let n = options::word(i, &mut word);
-    let mut name = [0u8; 8192];
-    let k = of_word(p, label, &word[..n], &mut name);
-    if k == 0 {
-        return 0;
-    }
-    if !cli_asked::is_file(p, label, &name[..k]) {
-        return 0;
-    }
-    cli_beside::beside(room, &name[..k], b"")
+// A word as a file's whole name, or what is the matter.
+pub fn of(rt: &HostRuntime, p: Program, word: &[u8], label: &[u8]) -> Result<String, Told> {
+    let name = of_word(rt, p, label, word)?;
+    cli_asked::is_file(rt, p, label, name.as_bytes())?;
+    Ok(name)
 }
 
 // How many bytes of a name are past its folder.
-fn own_length(name: &[u8]) -> usize {
-    let mut n = 0;
-    let mut i = name.len();
-    while 0 < i {
-        i -= 1;
-        if name[i] == b'/' {
-            return n;
-        }
-        n = std::num::wrapping_add_usize(n, 1);
+fn own_length(name: &str) -> usize {
+    match name.rfind('/') {
+        Some(at) => name[at..].len() - 1,
+        None => name.len(),
     }
-    n
 }
 
 // Whether the files beside a name have names that a folder takes, of at most 255 bytes.
-fn is_short(p: Program, label: &[u8], name: &[u8], most: usize, what: &[u8]) -> bool {
-    let is_so = own_length(name) <= most;
-    if !is_so {
-        say::expected(p, label, what);
+fn is_short(
+    rt: &HostRuntime,
+    p: Program,
+    label: &[u8],
+    name: &str,
+    most: usize,
+    what: &[u8],
+) -> Result<(), Told> {
+    if own_length(name) <= most {
+        return Ok(());
     }
-    is_so
+    say::expected(rt, p, label, what);
+    Err(Told)
 }
 
-// Word i as the name of a table or a desk, which gets endings of up to 11 bytes.
-pub fn of_kept(p: Program, i: usize, label: &[u8], room: &mut [u8]) -> usize
-    ensures { IsPrefixLen result room.new }
-{
-    let mut name = io::buffer();
-    let n = of(p, i, label, &mut name);
-    if !is_short(
+// A word as the name of a table or a desk, which gets endings of up to 11 bytes.
+pub fn of_kept(rt: &HostRuntime, p: Program, word: &[u8], label: &[u8]) -> Result<String, Told> {
+    let name = of(rt, p, word, label)?;
+    is_short(
+        rt,
         p,
         label,
-        &name[..n],
+        name.as_str(),
         244,
         b"the name of a file, of at most 244 bytes past its folder",
-    ) {
-        return 0;
-    }
-    cli_beside::beside(room, &name[..n], b"")
+    )?;
+    Ok(name)
 }
 
-// Word i as the name of replies or messages to make, which get endings of up to 17 bytes.
-pub fn of_made(p: Program, i: usize, label: &[u8], room: &mut [u8]) -> usize
-    ensures { IsPrefixLen result room.new }
-{
-    let mut name = io::buffer();
-    let n = of(p, i, label, &mut name);
-    if !is_short(
+// A word as the name of replies or messages to make, which get endings of up to 17 bytes.
+pub fn of_made(rt: &HostRuntime, p: Program, word: &[u8], label: &[u8]) -> Result<String, Told> {
+    let name = of(rt, p, word, label)?;
+    is_short(
+        rt,
         p,
         label,
-        &name[..n],
+        name.as_str(),
         238,
         b"the name of a file, of at most 238 bytes past its folder",
-    ) {
-        return 0;
-    }
-    cli_beside::beside(room, &name[..n], b"")
+    )?;
+    Ok(name)
 }
 
 // The same of the file to receive, of which `-` is standard input.
-pub fn of_input(p: Program, i: usize, room: &mut [u8]) -> usize
-    ensures { IsPrefixLen result room.new }
-{
-    let mut word = io::buffer();
-    let n = options::word(i, &mut word);
-    if text::same_bytes(&word[..n], b"-") {
-        return cli_beside::beside(room, b"-", b"");
+pub fn of_input(rt: &HostRuntime, p: Program, word: &[u8]) -> Result<String, Told> {
+    if word == b"-".as_slice() {
+        return made(rt, p, b"FILE", "-", "");
     }
-    of(p, i, b"FILE", room)
+    of(rt, p, word, b"FILE")
 }

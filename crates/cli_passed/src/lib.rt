@@ -1,10 +1,14 @@
 // How far a file was taken: its bytes and lines, where the SUO and the VAR on their way begin, and what was answered. The explanations
 // say it of each reply.
+#![tactic(auto)]
+
+ghost use Rattle.std.specs.Prelude.{◌≤◌, length};
+
 use cli_explain::{Count, Settled};
 
 // How far the file was taken, and what was answered. For the explanations alone: how many lines ended, the line of the last byte, the lines
 // where the last SUO and the last VAR begin.
-#[derive(Drop)]
+#[derive(Clone, Copy)]
 pub struct Passed {
     pub bytes: u64,
     pub lines: u64,
@@ -27,11 +31,12 @@ pub fn begun() -> Passed {
 
 // Where the input is cut: before the LF of a line that may begin a message, unless it is the first byte. So each record that begins a
 // message ends with the first byte of a part, and the session before it holds its beginning.
-pub fn cut_at(input: &[u8]) -> usize {
+pub fn cut_at(input: &[u8]) -> usize
+    ensures { result ≤ length input.now }
+{
     let mut is_marked = true;
     let mut is_new = false;
-    let mut i = 0;
-    while i < input.len() {
+    for i in 0..input.len() {
         let b = input[i];
         if is_cut(b, i, is_marked) {
             return i;
@@ -40,9 +45,8 @@ pub fn cut_at(input: &[u8]) -> usize {
             is_marked = b == b'>';
         }
         is_new = b == b'\n';
-        i += 1;
     }
-    i
+    input.len()
 }
 
 fn is_cut(b: u8, i: usize, is_marked: bool) -> bool {
@@ -57,23 +61,15 @@ fn is_cut(b: u8, i: usize, is_marked: bool) -> bool {
 
 // How many lines end in some bytes.
 fn lines_in(bytes: &[u8]) -> u64 {
-    let mut lines: u64 = 0;
-    let mut i = 0;
-    while i < bytes.len() {
-        if bytes[i] == b'\n' {
-            lines = std::num::wrapping_add_u64(lines, 1);
-        }
-        i += 1;
-    }
-    lines
+    bytes.iter().filter(|&&b| b == b'\n').count() as u64
 }
 
 // The same of the first n.
 fn lines_in_first(bytes: &[u8], n: usize) -> u64 {
-    if bytes.len() < n {
-        return 0;
+    match bytes.get(..n) {
+        Some(first) => lines_in(first),
+        None => 0,
     }
-    lines_in(&bytes[..n])
 }
 
 // The same of all but the last of the first n.
@@ -84,19 +80,16 @@ fn lines_before_last(bytes: &[u8], n: usize) -> u64 {
     lines_in_first(bytes, n - 1)
 }
 
-fn counted(count: Count, room: &[u8], length: usize) -> Count {
-    if length == 0 {
+fn counted(count: Count, reply: &[u8]) -> Count {
+    if reply.is_empty() {
         return count;
     }
-    if room.len() < length {
-        return count;
-    }
-    cli_explain::counted(count, &room[..length])
+    cli_explain::counted(count, reply)
 }
 
 // The line after those that ended before.
-fn line_after(passed: Passed, ended: u64) -> u64 {
-    std::num::wrapping_add_u64(std::num::wrapping_add_u64(passed.lines, ended), 1)
+fn line_after(passed: &Passed, ended: u64) -> u64 {
+    passed.lines.wrapping_add(ended).wrapping_add(1)
 }
 
 // Whether the record on its way begins a SUO there, or a VAR.
@@ -121,63 +114,53 @@ fn is_var(place: session::Place, text: [u8; 161]) -> bool {
 }
 
 // With the lines where a SUO or a VAR begins, if the record that is about to end begins one.
-pub fn marked_at_end(passed: Passed, s: session::Session) -> Passed {
+pub fn marked_at_end(passed: &Passed, s: &session::Session) -> Passed {
     let place = s.place;
-    let gathered = s.gathered;
-    let text = gathered.text;
-    let count = passed.count;
+    let text = s.gathered.text;
     let line = line_after(passed, 0);
-    let suo = if is_suo(place, text) {
-        line
-    } else {
-        passed.suo
-    };
-    let var = if is_var(place, text) {
-        line
-    } else {
-        passed.var
-    };
     Passed {
-        bytes: passed.bytes,
-        lines: passed.lines,
-        line: passed.line,
-        suo,
-        var,
-        count,
+        suo: if is_suo(place, text) {
+            line
+        } else {
+            passed.suo
+        },
+        var: if is_var(place, text) {
+            line
+        } else {
+            passed.var
+        },
+        ..*passed
     }
 }
 
 // The same where the input begins with the record's LF.
-pub fn marked_by(passed: Passed, s: session::Session, input: &[u8]) -> Passed {
-    if input.len() == 0 {
-        return passed;
+pub fn marked_by(passed: &Passed, s: &session::Session, input: &[u8]) -> Passed {
+    if input.starts_with(b"\n") {
+        return marked_at_end(passed, s);
     }
-    if input[0] != b'\n' {
-        return passed;
-    }
-    marked_at_end(passed, s)
+    *passed
 }
 
 // How far the file was taken after a call that took so many bytes of the input.
-pub fn passed_by(marked: Passed, input: &[u8], taken: usize, room: &[u8], length: usize) -> Passed {
+pub fn passed_by(marked: &Passed, input: &[u8], taken: usize, reply: &[u8]) -> Passed {
     let count = marked.count;
     let lines = lines_in_first(input, taken);
     let line = line_after(marked, lines_before_last(input, taken));
     Passed {
-        bytes: std::num::wrapping_add_u64(marked.bytes, taken as u64),
-        lines: std::num::wrapping_add_u64(marked.lines, lines),
+        bytes: marked.bytes.wrapping_add(taken as u64),
+        lines: marked.lines.wrapping_add(lines),
         line: if taken == 0 { marked.line } else { line },
         suo: marked.suo,
         var: marked.var,
-        count: counted(count, room, length),
+        count: counted(count, reply),
     }
 }
 
 // The same where nothing is explained: bytes alone are counted.
-pub fn plainly_passed(passed: Passed, taken: usize) -> Passed {
+pub fn plainly_passed(passed: &Passed, taken: usize) -> Passed {
     let count = passed.count;
     Passed {
-        bytes: std::num::wrapping_add_u64(passed.bytes, taken as u64),
+        bytes: passed.bytes.wrapping_add(taken as u64),
         lines: 0,
         line: 1,
         suo: 0,
@@ -187,7 +170,7 @@ pub fn plainly_passed(passed: Passed, taken: usize) -> Passed {
 }
 
 // A SUO that ends a frame begins the next one: the reply is about the one before it.
-fn suo_answered(passed: Passed, marked: Passed, place: session::Place, is_first: bool) -> u64 {
+fn suo_answered(passed: &Passed, marked: &Passed, place: session::Place, is_first: bool) -> u64 {
     if is_first && session::is_data(place) {
         return passed.suo;
     }
@@ -196,23 +179,23 @@ fn suo_answered(passed: Passed, marked: Passed, place: session::Place, is_first:
 
 // Where a reply was settled: at the last byte that was taken.
 pub fn at_step(
-    passed: Passed,
-    marked: Passed,
-    s: session::Session,
+    passed: &Passed,
+    marked: &Passed,
+    s: &session::Session,
     input: &[u8],
     taken: usize,
 ) -> Settled {
     let place = s.place;
     Settled {
         line: line_after(passed, lines_before_last(input, taken)),
-        byte: std::num::wrapping_add_u64(passed.bytes, taken as u64),
+        byte: passed.bytes.wrapping_add(taken as u64),
         suo: suo_answered(passed, marked, place, taken == 1),
         var: marked.var,
     }
 }
 
 // Where a reply was settled that the file's end gives: in the line of its last byte.
-pub fn at_end(passed: Passed, marked: Passed, s: session::Session) -> Settled {
+pub fn at_end(passed: &Passed, marked: &Passed, s: &session::Session) -> Settled {
     let place = s.place;
     Settled {
         line: passed.line,

@@ -1,58 +1,60 @@
 // The command explain: replies for people.
-use cli_explain::Told;
+use cli_explain::{Count, Untold};
+use cli_terminal::options::Words;
 use cli_terminal::program::Program;
-use cli_terminal::status::Status;
-use cli_terminal::{options, say};
+use cli_terminal::say;
+use cli_terminal::status::{Status, Told};
+use std::fs::File;
 
-fn of_count(count: cli_explain::Count) -> Status {
+fn of_count(count: Count) -> Status {
     if count.refused == 0 {
         return Status::Served;
     }
     Status::Refused
 }
 
-fn explained(path: &[u8], input: i32) -> Status {
-    let e = cli_explain::replies(input, libc::STDOUT_FILENO);
-    let told = e.told;
-    let count = e.count;
-    match told {
-        Told::Whole => of_count(count),
-        Told::NotReplies => {
-            cli_beside::tell(
+// Why the replies were not told whole.
+fn tell(rt: &HostRuntime, path: &str, why: Untold) {
+    match why {
+        Untold::NotReplies => cli_beside::tell(
+            rt,
+            Program::Lentilpot,
+            path,
+            b"not a file of replies: expected one that 'receive' wrote, each reply of 237 or 317 characters and an LF\n",
+        ),
+        Untold::Unread(e) => {
+            say::trouble(rt, Program::Lentilpot, b"can't read the replies", path, &e);
+        }
+        Untold::Unwritten(e) => {
+            let _ = say::is_said(
+                rt,
                 Program::Lentilpot,
-                path,
-                b"not a file of replies: expected one that 'receive' wrote, each reply of 237 or 317 characters and an LF\n",
+                Err(e),
+                b"the replies can't be shown: ",
             );
-            Status::Trouble
-        }
-        Told::Unread => {
-            say::trouble(Program::Lentilpot, b"can't read the replies", path);
-            Status::Trouble
-        }
-        Told::Unwritten => {
-            say::is_said(Program::Lentilpot, false, b"the replies can't be shown: ");
-            Status::Trouble
         }
     }
 }
 
-pub fn explain() -> Status {
-    if !cli_help::are_as_many(7, 3, 3) {
-        return Status::Trouble;
+fn explained(rt: &HostRuntime, path: &str, input: &mut File) -> Result<Status, Told> {
+    match cli_explain::replies(input, &mut rt.stdout()) {
+        Ok(count) => Ok(of_count(count)),
+        Err(why) => {
+            tell(rt, path, why);
+            Err(Told)
+        }
     }
-    if !options::are_taken(Program::Lentilpot, b"") {
-        return Status::Trouble;
-    }
-    let mut path = io::buffer();
-    let n = cli_names::of(Program::Lentilpot, 2, b"REPLIES", &mut path);
-    if n == 0 {
-        return Status::Trouble;
-    }
-    let input = cli_beside::open_told(Program::Lentilpot, b"can't open the replies", &path[..n]);
-    if input < 0 {
-        return Status::Trouble;
-    }
-    let status = explained(&path[..n], input);
-    libc::close(input);
-    status
+}
+
+pub fn explain(rt: &HostRuntime, words: &Words) -> Result<Status, Told> {
+    cli_help::are_as_many(rt, words, 7, 3, 3)?;
+    words.are_taken(rt, Program::Lentilpot, b"")?;
+    let path = cli_names::of(rt, Program::Lentilpot, words.word(2), b"REPLIES")?;
+    let mut input = cli_beside::open_told(
+        rt,
+        Program::Lentilpot,
+        b"can't open the replies",
+        path.as_str(),
+    )?;
+    explained(rt, path.as_str(), &mut input)
 }

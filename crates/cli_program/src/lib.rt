@@ -1,89 +1,84 @@
 // The program: a bank's table of customers in a file, and the files that customers send. Thin over the calls: `cli_keep` has the
 // commands that keep a table, `cli_receive` and `cli_show` the commands receive and show, `cli_explain` what replies say,
 // `cli_asked` the words, `cli_table`, `cli_lock` and `cli_replies` the files.
+#![tactic(auto)]
+
 ghost use Rattle.std.specs.Prelude.{◌<◌};
+ghost use Rattle.std.specs.Process.{exit_status};
 
 mod explaining;
 
+use cli_terminal::options::Words;
 use cli_terminal::program::Program;
-use cli_terminal::status::Status;
-use cli_terminal::{options, say, status};
+use cli_terminal::status::{Status, Told};
+use cli_terminal::{say, status};
+use std::process::ExitCode;
 
-fn served(command: u32) -> Status {
+fn served(rt: &HostRuntime, words: &Words, command: u32) -> Result<Status, Told> {
     match command {
-        1 => cli_keep::setup(),
-        2 => cli_keep::add(),
-        3 => cli_keep::key(),
-        4 => cli_keep::order(),
-        5 => cli_receive::receive(),
-        6 => cli_show::show(),
-        7 => explaining::explain(),
-        _ => helped(),
+        1 => cli_keep::setup(rt, words),
+        2 => cli_keep::add(rt, words),
+        3 => cli_keep::key(rt, words),
+        4 => cli_keep::order(rt, words),
+        5 => cli_receive::receive(rt, words),
+        6 => cli_show::show(rt, words),
+        7 => explaining::explain(rt, words),
+        _ => helped(rt, words),
     }
 }
 
-fn shown(is_written: bool) -> Status {
-    status::served_if(say::is_said(Program::Lentilpot, is_written, b"the help can't be shown: "))
+// A text of help, shown.
+fn shown(rt: &HostRuntime, text: &[u8]) -> Result<Status, Told> {
+    status::served_if(say::is_said(
+        rt,
+        Program::Lentilpot,
+        say::out(rt, text),
+        b"the help can't be shown: ",
+    ))
 }
 
 // `help`, and `help COMMAND`.
-fn helped() -> Status {
-    if !cli_help::are_as_many(8, 2, 3) {
-        return Status::Trouble;
+fn helped(rt: &HostRuntime, words: &Words) -> Result<Status, Told> {
+    cli_help::are_as_many(rt, words, 8, 2, 3)?;
+    if words.count() == 2 {
+        return shown(rt, cli_help::whole());
     }
-    if options::count() == 2 {
-        return shown(cli_help::whole());
-    }
-    let command = command_at(2);
+    let command = cli_help::command_of(words.word(2));
     if command == 0 {
-        cli_help::tell_names();
-        return Status::Trouble;
+        cli_help::tell_names(rt);
+        return Err(Told);
     }
-    shown(cli_help::of(command))
-}
-
-fn command_at(i: usize) -> u32 {
-    let mut word = io::buffer();
-    let n = options::word(i, &mut word);
-    cli_help::command_of(&word[..n])
+    shown(rt, cli_help::of(command))
 }
 
 // A command, or what was asked in place of one.
-fn of_words() -> Status {
-    let command = command_at(1);
-    if options::is_given(b"--help") || options::is_given(b"-h") {
+fn of_words(rt: &HostRuntime, words: &Words) -> Result<Status, Told> {
+    let command = cli_help::command_of(words.word(1));
+    if words.is_given(b"--help") || words.is_given(b"-h") {
         if command == 0 {
-            return shown(cli_help::whole());
+            return shown(rt, cli_help::whole());
         }
-        return shown(cli_help::of(command));
+        return shown(rt, cli_help::of(command));
     }
     if command != 0 {
-        return served(command);
+        return served(rt, words, command);
     }
-    if os::arg_count() == 2 && options::is_given(b"--version") {
-        return shown(cli_help::version());
+    if words.count_all() == 2 && words.is_given(b"--version") {
+        return shown(rt, cli_help::version());
     }
-    cli_help::tell_names();
-    Status::Trouble
+    cli_help::tell_names(rt);
+    Err(Told)
+}
+
+fn asked(rt: &HostRuntime) -> Result<Status, Told> {
+    cli_asked::are_open(rt, Program::Lentilpot)?;
+    let words = cli_asked::words(rt, Program::Lentilpot)?;
+    of_words(rt, &words)
 }
 
 // The whole work: the exit status.
-pub fn run() -> u32
-    ensures { result < 3 }
+pub fn run(rt: &HostRuntime) -> ExitCode
+    ensures { exit_status result < 3 }
 {
-    if !cli_asked::are_open(Program::Lentilpot) {
-        return 2;
-    }
-    if !cli_asked::are_whole(Program::Lentilpot) {
-        return 2;
-    }
-    status::number(of_words())
-}
-
-// What the program's C main calls: a Rattle main has no exit status.
-#[unsafe(no_mangle)]
-pub extern "C" fn lentilpot_run() -> u32
-    ensures { result < 3 }
-{
-    run()
+    ExitCode::from(status::number(status::ended(asked(rt))))
 }

@@ -1,286 +1,278 @@
 // The command receive. The order of writes: the replies beside their name, flushed; the table; the replies' name; then the listing. The
 // input is read in parts and the replies are written as they come, so memory does not grow with the file.
+#![tactic(auto)]
+
+use calendar::Date;
 use cli_files::Seen;
 use cli_run::Run;
+use cli_terminal::options::Words;
 use cli_terminal::program::Program;
-use cli_terminal::status::Status;
-use cli_terminal::{options, say};
+use cli_terminal::say;
+use cli_terminal::status::{Status, Told};
+use opening::Opening;
+use session::Session;
+use size_limit::Growing;
+use std::fs::File;
+use std::io;
+use std::io::Read;
 
-// How a run ended: with trouble that was told, with a refusal to answer on a table of that day, or with the replies to list (and, where
+// How a run ended, but for trouble that was told: with a refusal to answer on a table of that day, or with the replies to list (and, where
 // they are asked for, the explanations).
 #[derive(Drop)]
-struct Done {
-    refusal: u32,
-    day: calendar::Date,
-    is_saved: bool,
-    replies: i32,
-    explanations: i32,
-}
-
-fn trouble() -> Done {
-    Done {
-        refusal: 0,
-        day: calendar::Date { yymmdd: 0 },
-        is_saved: false,
-        replies: -1,
-        explanations: -1,
-    }
+enum Done {
+    Refused {
+        refusal: u32,
+        day: Date,
+    },
+    Saved {
+        replies: io::Result<File>,
+        explanations: Option<Growing>,
+    },
 }
 
 // ---- words
 
-pub fn receive() -> Status {
-    if !cli_help::are_as_many(5, 9, 10) {
-        return Status::Trouble;
-    }
-    if !options::are_taken(Program::Lentilpot, b"--later --explain ") {
-        return Status::Trouble;
-    }
-    let mut table = io::buffer();
-    let n = cli_names::of_kept(Program::Lentilpot, 2, b"TABLE", &mut table);
-    if n == 0 {
-        return Status::Trouble;
-    }
-    receive_words(&table[..n])
+pub fn receive(rt: &HostRuntime, words: &Words) -> Result<Status, Told> {
+    cli_help::are_as_many(rt, words, 5, 9, 10)?;
+    words.are_taken(rt, Program::Lentilpot, b"--later --explain ")?;
+    let table = cli_names::of_kept(rt, Program::Lentilpot, words.word(2), b"TABLE")?;
+    receive_words(rt, words, table.as_str())
 }
 
-fn receive_words(table: &[u8]) -> Status {
-    let cli_words::Number::Is(day) = cli_asked::date(Program::Lentilpot, 3) else {
-        return Status::Trouble;
-    };
-    let cli_words::Number::Is(time) = cli_asked::digits(
-        Program::Lentilpot,
-        4,
-        6,
-        6,
-        b"TIME",
-        b"six digits hhmmss",
-    ) else {
-        return Status::Trouble;
-    };
-    let cli_words::Number::Is(kind) = cli_asked::digits(
-        Program::Lentilpot,
-        5,
-        1,
-        9,
-        b"TYPE",
-        b"a data type, 1 to 16",
-    ) else {
-        return Status::Trouble;
-    };
-    let cli_words::Block::Of(clock) = cli_asked::key(Program::Lentilpot, 6, b"CLOCK") else {
-        return Status::Trouble;
-    };
-    let cli_words::Number::Is(size) = cli_asked::read_size(Program::Lentilpot, 9) else {
-        return Status::Trouble;
-    };
-    let today = calendar::Date { yymmdd: day };
-    let o = opening::Opening {
-        today,
+fn receive_words(rt: &HostRuntime, words: &Words, table: &str) -> Result<Status, Told> {
+    let p = Program::Lentilpot;
+    let day = cli_asked::date(rt, p, words.word(3))?;
+    let time = cli_asked::digits(rt, p, words.word(4), 6, 6, b"TIME", b"six digits hhmmss")?;
+    let kind = cli_asked::digits(rt, p, words.word(5), 1, 9, b"TYPE", b"a data type, 1 to 16")?;
+    let clock = cli_asked::key(rt, p, words.word(6), b"CLOCK")?;
+    let size = read_size(rt, words, 9)?;
+    let o = Opening {
+        today: Date { yymmdd: day },
         time,
         kind,
         clock,
     };
-    receive_into(table, o, size as usize)
+    receive_into(rt, words, table, o, size)
+}
+
+// Bytes a read; all that is read at once where the word is left out.
+fn read_size(rt: &HostRuntime, words: &Words, i: usize) -> Result<usize, Told> {
+    if words.count() <= i {
+        return Ok(65536);
+    }
+    let size = cli_asked::read_size(rt, Program::Lentilpot, words.word(i))?;
+    Ok(size as usize)
 }
 
 // The names of the file and of the replies.
-fn receive_into(table: &[u8], o: opening::Opening, size: usize) -> Status {
-    let mut file = io::buffer();
-    let n = cli_names::of_input(Program::Lentilpot, 7, &mut file);
-    if n == 0 {
-        return Status::Trouble;
-    }
-    let mut replies = io::buffer();
-    let m = cli_names::of_made(Program::Lentilpot, 8, b"REPLIES", &mut replies);
-    if m == 0 {
-        return Status::Trouble;
-    }
-    receive_file(table, &file[..n], &replies[..m], o, size)
+fn receive_into(
+    rt: &HostRuntime,
+    words: &Words,
+    table: &str,
+    o: Opening,
+    size: usize,
+) -> Result<Status, Told> {
+    let file = cli_names::of_input(rt, Program::Lentilpot, words.word(7))?;
+    let replies = cli_names::of_made(rt, Program::Lentilpot, words.word(8), b"REPLIES")?;
+    receive_file(rt, words, table, file.as_str(), replies.as_str(), o, size)
 }
 
 // ---- files
 
-fn is_input(file: &[u8]) -> bool {
-    text::same_bytes(file, b"-")
-}
-
 // The file is opened before the table is taken: the opening of a pipe may wait.
 fn receive_file(
-    table: &[u8],
-    file: &[u8],
-    replies: &[u8],
-    o: opening::Opening,
+    rt: &HostRuntime,
+    words: &Words,
+    table: &str,
+    file: &str,
+    replies: &str,
+    o: Opening,
     size: usize,
-) -> Status {
-    if is_input(file) {
-        return receive_open(table, libc::STDIN_FILENO, file, replies, o, size);
+) -> Result<Status, Told> {
+    if file == "-" {
+        let mut input = rt.stdin();
+        let given = cli_files::of_descriptor(rt, &input).ok();
+        return receive_open(rt, words, table, &mut input, given, file, replies, o, size);
     }
-    let input = cli_beside::open_told(Program::Lentilpot, b"can't open the file to receive", file);
-    if input < 0 {
-        return Status::Trouble;
-    }
-    let status = receive_open(table, input, file, replies, o, size);
-    libc::close(input);
-    status
+    let mut input = cli_beside::open_told(
+        rt,
+        Program::Lentilpot,
+        b"can't open the file to receive",
+        file,
+    )?;
+    let given = cli_files::of_open(&input).ok();
+    receive_open(rt, words, table, &mut input, given, file, replies, o, size)
 }
 
-fn receive_open(
-    table: &[u8],
-    input: i32,
-    file: &[u8],
-    replies: &[u8],
-    o: opening::Opening,
+fn receive_open<I: Read>(
+    rt: &HostRuntime,
+    words: &Words,
+    table: &str,
+    input: &mut I,
+    given: Option<Seen>,
+    file: &str,
+    replies: &str,
+    o: Opening,
     size: usize,
-) -> Status {
-    let r = cli_lock::take(Program::Lentilpot, table);
-    if r.process == 0 {
-        return Status::Trouble;
-    }
-    let done = under_lock(table, input, file, replies, r, o, size);
-    cli_lock::release(Program::Lentilpot, table, r);
-    answered(done, replies, file, o)
+) -> Result<Status, Told> {
+    let r = cli_lock::take(rt, Program::Lentilpot, table)?;
+    let done = under_lock(rt, words, table, input, given, file, replies, &r, o, size);
+    cli_lock::release(rt, Program::Lentilpot, table, &r);
+    answered(rt, done?, replies, file, o)
 }
 
 // What is said once the table is free again, since a reader may be slow to take it.
-fn answered(done: Done, replies: &[u8], file: &[u8], o: opening::Opening) -> Status {
-    let today = o.today;
-    if done.refusal == 11 {
-        return say::answer_limits(Program::Lentilpot, b"TYPE", b"a data type, 1 to 16");
+fn answered(
+    rt: &HostRuntime,
+    done: Done,
+    replies: &str,
+    file: &str,
+    o: Opening,
+) -> Result<Status, Told> {
+    match done {
+        Done::Refused { refusal: 11, .. } => say::answer_limits(
+            rt,
+            Program::Lentilpot,
+            b"TYPE",
+            b"a data type, 1 to 16",
+        ),
+        Done::Refused { refusal, day } => cli_days::answer(rt, day, o.today, o.time, refusal),
+        Done::Saved {
+            replies: listed,
+            explanations,
+        } => cli_listing::list(rt, listed, explanations, replies, file, o.today),
     }
-    if done.refusal != 0 {
-        let day = done.day;
-        return cli_days::answer(day, today, o.time, done.refusal);
+}
+
+// Whether two files that were seen are the same one.
+fn are_same(a: Option<Seen>, b: Option<Seen>) -> bool {
+    match (a, b) {
+        (Some(a), Some(b)) => cli_files::is_same(&a, &b),
+        _ => false,
     }
-    if done.is_saved {
-        return cli_listing::list(done.replies, done.explanations, replies, file, today);
-    }
-    Status::Trouble
 }
 
 // Loads the table and opens the file.
-fn under_lock(
-    table: &[u8],
-    input: i32,
-    file: &[u8],
-    replies: &[u8],
-    r: Run,
-    o: opening::Opening,
+fn under_lock<I: Read>(
+    rt: &HostRuntime,
+    words: &Words,
+    table: &str,
+    input: &mut I,
+    given: Option<Seen>,
+    file: &str,
+    replies: &str,
+    r: &Run,
+    o: Opening,
     size: usize,
-) -> Done {
+) -> Result<Done, Told> {
     let mut t = [0u8; 49152];
-    let seen = cli_files::of_name(table);
-    if !cli_table::load(Program::Lentilpot, table, &mut t) {
-        return trouble();
+    let seen = cli_files::of_name(rt, table).ok();
+    cli_table::load(rt, Program::Lentilpot, table, &mut t)?;
+    if are_same(given, seen) {
+        say::expected(rt, Program::Lentilpot, b"FILE", b"another file than TABLE");
+        return Err(Told);
     }
-    if cli_files::is_same(cli_files::of_open(input), seen) {
-        say::expected(Program::Lentilpot, b"FILE", b"another file than TABLE");
-        return trouble();
-    }
-    let today = o.today;
-    if !cli_days::is_meant(&t, today) {
-        return trouble();
-    }
+    cli_days::is_meant(rt, words, &t, o.today)?;
     let a = calls::open(&mut t, o);
     if a.refusal != 0 {
-        return Done {
+        return Ok(Done::Refused {
             refusal: a.refusal,
             day: table::day(&t),
-            is_saved: false,
-            replies: -1,
-            explanations: -1,
-        };
+        });
     }
-    let s = a.session;
-    make_table(table, seen, input, file, replies, r, &mut t, s, size)
+    make_table(
+        rt, words, table, seen, input, file, replies, r, &mut t, a.session, size,
+    )
 }
 
 // Makes TABLE.new: from here on the names that this run may not give to its replies are taken.
-fn make_table(
-    table: &[u8],
-    seen: Seen,
-    input: i32,
-    file: &[u8],
-    replies: &[u8],
-    r: Run,
+fn make_table<I: Read>(
+    rt: &HostRuntime,
+    words: &Words,
+    table: &str,
+    seen: Option<Seen>,
+    input: &mut I,
+    file: &str,
+    replies: &str,
+    r: &Run,
     t: &mut [u8],
-    s: session::Session,
+    s: Session,
     size: usize,
-) -> Done {
-    let kept = cli_table::begin(Program::Lentilpot, table);
-    if kept < 0 {
-        return trouble();
+) -> Result<Done, Told> {
+    let kept = cli_table::begin(rt, Program::Lentilpot, table)?;
+    if let Err(told) = cli_replies::is_free(rt, Program::Lentilpot, replies) {
+        cli_table::give_up(rt, table, kept);
+        return Err(told);
     }
-    if !cli_replies::is_free(Program::Lentilpot, replies) {
-        cli_table::give_up(table, kept);
-        return trouble();
-    }
-    let out = cli_replies::begin(Program::Lentilpot, replies, table, r);
-    if out < 0 {
-        cli_replies::undo(Program::Lentilpot, table, kept, r);
-        return trouble();
-    }
-    make_replies(table, kept, seen, input, file, replies, out, r, t, s, size)
+    let out = match cli_replies::begin(rt, Program::Lentilpot, replies, table, r) {
+        Ok(out) => out,
+        Err(told) => {
+            cli_replies::undo(rt, Program::Lentilpot, table, kept, r);
+            return Err(told);
+        }
+    };
+    make_replies(
+        rt, words, table, kept, seen, input, file, replies, out, r, t, s, size,
+    )
 }
 
 // Fills REPLIES.new, saves the table and gives the replies their name.
-fn make_replies(
-    table: &[u8],
-    kept: i32,
-    seen: Seen,
-    input: i32,
-    file: &[u8],
-    replies: &[u8],
-    out: i32,
-    r: Run,
+fn make_replies<I: Read>(
+    rt: &HostRuntime,
+    words: &Words,
+    table: &str,
+    kept: File,
+    seen: Option<Seen>,
+    input: &mut I,
+    file: &str,
+    replies: &str,
+    mut out: Growing,
+    r: &Run,
     t: &mut [u8],
-    s: session::Session,
+    s: Session,
     size: usize,
-) -> Done {
-    let explanations = cli_listing::begin(replies);
-    if !is_filled(input, file, out, explanations, replies, t, s, size) {
-        cli_replies::remove(Program::Lentilpot, replies, out, r);
-        cli_replies::undo(Program::Lentilpot, table, kept, r);
-        return trouble();
-    }
+) -> Result<Done, Told> {
+    let explanations = match fill(rt, words, input, file, &mut out, replies, t, s, size) {
+        Ok(explanations) => explanations,
+        Err(told) => {
+            cli_replies::remove(rt, Program::Lentilpot, replies, out.file(), r);
+            cli_replies::undo(rt, Program::Lentilpot, table, kept, r);
+            return Err(told);
+        }
+    };
     // opened while the name is surely this run's, and listed once all is done
-    let listed = cli_beside::open_beside(replies, b".new");
-    let is_saved = cli_replies::is_finished(
+    let listed = cli_beside::open_beside(rt, replies, ".new");
+    cli_replies::is_finished(
+        rt,
         Program::Lentilpot,
         table,
         kept,
         seen,
         replies,
-        out,
+        out.file(),
         r,
         t,
-    );
-    libc::close(out);
-    Done {
-        refusal: 0,
-        day: calendar::Date { yymmdd: 0 },
-        is_saved,
+    )?;
+    Ok(Done::Saved {
         replies: listed,
         explanations,
-    }
+    })
 }
 
-// Every reply written and flushed.
-fn is_filled(
-    input: i32,
-    file: &[u8],
-    out: i32,
-    explanations: i32,
-    replies: &[u8],
+// Every reply written and flushed; the explanations, where they are asked for.
+fn fill<I: Read>(
+    rt: &HostRuntime,
+    words: &Words,
+    input: &mut I,
+    file: &str,
+    out: &mut Growing,
+    replies: &str,
     t: &mut [u8],
-    s: session::Session,
+    s: Session,
     size: usize,
-) -> bool {
-    if explanations < -1 {
-        return false;
-    }
-    if !cli_feed::is_received(input, file, out, explanations, replies, t, s, size) {
-        return false;
-    }
-    cli_replies::is_flushed(Program::Lentilpot, replies, out)
+) -> Result<Option<Growing>, Told> {
+    let mut explanations = cli_listing::begin(rt, words, replies)?;
+    cli_feed::is_received(rt, input, file, out, &mut explanations, replies, t, s, size)?;
+    cli_replies::is_flushed(rt, Program::Lentilpot, replies, out.file())?;
+    Ok(explanations)
 }

@@ -1,19 +1,17 @@
 // Who a lock, or replies under way, are of: a process and sixteen random letters of the run, in one line, and perhaps a name in the next.
+#![tactic(auto)]
+
 use cli_terminal::program::Program;
 use cli_terminal::say;
+use cli_terminal::status::Told;
+use std::process;
+use std::random::RandomSource;
 
 // Process 0 is nobody.
-#[derive(Drop)]
+#[derive(Clone, Copy, PartialEq)]
 pub struct Run {
     pub process: u32,
     pub letters: [u8; 16],
-}
-
-pub fn nobody() -> Run {
-    Run {
-        process: 0,
-        letters: [b'-'; 16],
-    }
 }
 
 fn letter(b: u8) -> u8 {
@@ -21,105 +19,86 @@ fn letter(b: u8) -> u8 {
 }
 
 // This process, on a run of its own.
-pub fn begun(p: Program) -> Run {
-    let mut b = [0u8; 16];
-    if libc::getentropy(&mut b) != 0 {
-        say::trouble(p, b"can't begin a run", b"random bytes");
-        return nobody();
+pub fn begun(rt: &HostRuntime, p: Program) -> Result<Run, Told> {
+    let mut letters = [0u8; 16];
+    if let Err(e) = rt.fill_bytes(&mut letters) {
+        say::trouble(rt, p, b"can't begin a run", "random bytes", &e);
+        return Err(Told);
     }
-    Run {
-        process: cli_files::unsigned(libc::getpid()),
-        letters: [
-            letter(b[0]),
-            letter(b[1]),
-            letter(b[2]),
-            letter(b[3]),
-            letter(b[4]),
-            letter(b[5]),
-            letter(b[6]),
-            letter(b[7]),
-            letter(b[8]),
-            letter(b[9]),
-            letter(b[10]),
-            letter(b[11]),
-            letter(b[12]),
-            letter(b[13]),
-            letter(b[14]),
-            letter(b[15]),
-        ],
+    for b in letters.iter_mut() {
+        *b = letter(*b);
     }
+    let process = process::id(rt.process());
+    Ok(Run { process, letters })
 }
 
 // The line: ten digits, a blank, the letters, LF.
-pub fn line(r: Run) -> [u8; 28] {
-    let mut n = [0u8; 10];
-    text::write_number(&mut n, r.process as u64);
-    let l = r.letters;
-    [
-        n[0], n[1], n[2], n[3], n[4], n[5], n[6], n[7], n[8], n[9], b' ', l[0], l[1], l[2], l[3],
-        l[4], l[5], l[6], l[7], l[8], l[9], l[10], l[11], l[12], l[13], l[14], l[15], b'\n',
-    ]
+pub fn line(r: &Run) -> [u8; 28] {
+    let mut line = [b' '; 28];
+    text::write_number(&mut line[..10], r.process as u64);
+    text::copy(&mut line[11..27], &r.letters);
+    line[27] = b'\n';
+    line
 }
 
 // The letters as the ending of a name that no other run gives.
-pub fn ending(r: Run) -> [u8; 17] {
-    let l = r.letters;
-    [
-        b'.', l[0], l[1], l[2], l[3], l[4], l[5], l[6], l[7], l[8], l[9], l[10], l[11], l[12],
-        l[13], l[14], l[15],
-    ]
+pub fn ending(r: &Run) -> [u8; 17] {
+    let mut ending = [b'.'; 17];
+    text::copy(&mut ending[1..], &r.letters);
+    ending
 }
 
 // What a file says, if it begins with such a line.
-pub fn read(file: &[u8]) -> Run {
-    if file.len() < 28 {
-        return nobody();
-    }
-    if file[10] != b' ' || file[27] != b'\n' {
-        return nobody();
+pub fn read(file: &[u8]) -> Option<Run> {
+    if file.len() < 28 || file[10] != b' ' || file[27] != b'\n' {
+        return None;
     }
     let cli_words::Number::Is(process) = cli_words::digits(&file[0..10], 10, 10) else {
-        return nobody();
+        return None;
     };
+    if process == 0 {
+        return None;
+    }
     let mut letters = [0u8; 16];
     text::copy(&mut letters, &file[11..27]);
-    Run { process, letters }
+    Some(Run { process, letters })
 }
 
 // The name in the line after it; none where that line has no end.
 pub fn name(file: &[u8]) -> &[u8] {
     if file.len() < 28 {
-        return &file[..0];
+        return b"";
     }
-    let end = cli_words::part_end(file, 28, b'\n');
-    if file.len() <= end || end < 28 {
-        return &file[..0];
+    let rest = &file[28..];
+    match rest.iter().position(|&b| b == b'\n') {
+        Some(end) => &rest[..end],
+        None => b"",
     }
-    &file[28..end]
 }
 
-pub fn is_same(a: Run, b: Run) -> bool {
-    if a.process != b.process {
-        return false;
-    }
-    let first = a.letters;
-    let second = b.letters;
-    text::same_bytes(&first, &second)
-}
-
-pub fn is_living(r: Run) -> bool {
+// Whether the process of a run lives. Where the system shows no other process, every one counts as living, so that no mend is told of what
+// may be held.
+pub fn is_living(rt: &HostRuntime, r: &Run) -> bool {
     let process = r.process;
     if 2147483647 < process {
         return false;
     }
-    if libc::getpgid(process as i32) < 0 {
-        return os::errno() == libc::EPERM;
+    if !is_shown(rt, 1) {
+        return true;
     }
-    true
+    is_shown(rt, process)
+}
+
+// Whether the system shows a process of that number; so too where it can't be asked.
+fn is_shown(rt: &HostRuntime, process: u32) -> bool {
+    match format!(in rt.alloc(); "/proc/{process}") {
+        Ok(path) => cli_files::of_name(rt, path.as_str()).is_ok(),
+        Err(_) => true,
+    }
 }
 
 // The number of the process, in what is told.
-pub fn tell(r: Run) {
-    say::err(b"process ");
-    io::print_decimal(libc::STDERR_FILENO, r.process as u64);
+pub fn tell(rt: &HostRuntime, r: &Run) {
+    let process = r.process;
+    let _ = eprint!(rt; "process {process}");
 }

@@ -1,18 +1,26 @@
 // Explains a reply where it was settled: by the session just before the byte that settled it, and by the table before and after.
+#![tactic(auto)]
+
 use cli_explain::Settled;
 use cli_passed::Passed;
 use cli_terminal::program::Program;
 use cli_terminal::say;
+use cli_terminal::status::Told;
+use session::Session;
+use size_limit::Growing;
+use std::io;
 
-pub fn is_told(is_written: bool, replies: &[u8]) -> bool {
-    if !is_written {
+pub fn is_told(rt: &HostRuntime, written: io::Result<()>, replies: &str) -> Result<(), Told> {
+    written.map_err(|e| {
         say::trouble(
+            rt,
             Program::Lentilpot,
             b"nothing was changed: can't write the explanations beside the replies",
             replies,
+            &e,
         );
-    }
-    is_written
+        Told
+    })
 }
 
 // The table as it is before a call.
@@ -23,77 +31,57 @@ pub fn table_before(t: &[u8]) -> [u8; 49152] {
 }
 
 // The session after the first n bytes of the input, which settle nothing.
-fn session_before(t: &mut [u8], s: session::Session, input: &[u8], n: usize) -> session::Session {
-    if input.len() < n {
-        return s;
+fn session_before(t: &mut [u8], s: Session, input: &[u8], n: usize) -> Session {
+    match input.get(..n) {
+        Some(first) => calls::read(t, s, first, &mut [0u8; 317]).session,
+        None => s,
     }
-    let mut unused = [0u8; 317];
-    let a = calls::read(t, s, &input[..n], &mut unused);
-    a.session
-}
-
-// A reply of that length, told.
-fn is_reply_told(
-    explanations: i32,
-    before: &[u8],
-    t: &[u8],
-    s: session::Session,
-    passed: Passed,
-    room: &[u8],
-    length: usize,
-    at: Settled,
-) -> bool {
-    if room.len() < length {
-        return false;
-    }
-    let count = passed.count;
-    cli_explain::tell(explanations, before, t, s, &room[..length], count, at)
 }
 
 // Explains a reply, if there is one, by the session just before the byte that settled it: the same read without that byte, on the
 // table as it was.
 pub fn is_step_explained(
-    explanations: i32,
-    replies: &[u8],
+    rt: &HostRuntime,
+    explanations: &mut Growing,
+    replies: &str,
     before: &mut [u8],
     t: &[u8],
-    s: session::Session,
-    marked: Passed,
+    s: Session,
+    marked: &Passed,
     at: Settled,
     input: &[u8],
     taken: usize,
-    room: &[u8],
-    length: usize,
-) -> bool {
-    if length == 0 {
-        return true;
+    reply: &[u8],
+) -> Result<(), Told> {
+    if reply.is_empty() {
+        return Ok(());
     }
     if taken == 0 {
-        return false;
+        return Err(Told);
     }
     let held = session_before(before, s, input, taken - 1);
-    is_told(
-        is_reply_told(explanations, before, t, held, marked, room, length, at),
-        replies,
-    )
+    let written = cli_explain::tell(explanations, before, t, held, reply, marked.count, at);
+    is_told(rt, written, replies)
 }
 
+// The same of a reply that the file's end gives, where explanations are asked for.
 pub fn is_end_explained(
-    explanations: i32,
-    replies: &[u8],
+    rt: &HostRuntime,
+    explanations: &mut Option<Growing>,
+    replies: &str,
     before: &[u8],
     t: &[u8],
-    s: session::Session,
-    marked: Passed,
+    s: Session,
+    marked: &Passed,
     at: Settled,
-    room: &[u8],
-    length: usize,
-) -> bool {
-    if explanations < 0 || length == 0 {
-        return true;
+    reply: &[u8],
+) -> Result<(), Told> {
+    let Some(explanations) = explanations else {
+        return Ok(());
+    };
+    if reply.is_empty() {
+        return Ok(());
     }
-    is_told(
-        is_reply_told(explanations, before, t, s, marked, room, length, at),
-        replies,
-    )
+    let written = cli_explain::tell(explanations, before, t, s, reply, marked.count, at);
+    is_told(rt, written, replies)
 }

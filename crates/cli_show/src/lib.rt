@@ -1,235 +1,234 @@
-// The command show: what a table holds, with check values for keys. Each part says whether it could be written.
-use cli_terminal::program::Program;
-use cli_terminal::status::Status;
-use cli_terminal::{options, say, status};
+// The command show: what a table holds, with check values for keys.
+#![tactic(auto)]
 
-fn date(d: calendar::Date) -> bool {
+use cli_terminal::options::Words;
+use cli_terminal::program::Program;
+use cli_terminal::status::{Status, Told};
+use cli_terminal::{say, status};
+use std::io;
+
+fn date(rt: &HostRuntime, d: calendar::Date) -> io::Result<()> {
     let mut six = [0u8; 6];
     text::write_number(&mut six, d.yymmdd as u64);
-    say::out(&six)
+    say::out(rt, &six)
 }
 
-fn yes_or_no(label: &[u8], is_so: bool) -> bool {
-    if !say::out(label) {
-        return false;
-    }
+fn yes_or_no(rt: &HostRuntime, label: &[u8], is_so: bool) -> io::Result<()> {
+    say::out(rt, label)?;
     if is_so {
-        return say::out(b"yes\n");
+        return say::out(rt, b"yes\n");
     }
-    say::out(b"no\n")
+    say::out(rt, b"no\n")
 }
 
 // ---- the bank
 
-fn holiday(d: u32) -> bool {
-    say::out(b" ") && date(calendar::Date { yymmdd: d })
+fn holiday(rt: &HostRuntime, d: u32) -> io::Result<()> {
+    say::out(rt, b" ")?;
+    date(rt, calendar::Date { yymmdd: d })
 }
 
-fn holidays(h: table::Holidays) -> bool {
-    if !(say::out(b"holidays    ") && cli_shown::number(h.count as u64)) {
-        return false;
+fn holidays(rt: &HostRuntime, h: &table::Holidays) -> io::Result<()> {
+    say::out(rt, b"holidays    ")?;
+    cli_shown::number(rt, h.count as u64)?;
+    for &d in h.dates.iter().take(h.count as usize) {
+        holiday(rt, d)?;
     }
-    let mut i = 0;
-    while i < 200 {
-        if (i as u32) < h.count {
-            if !holiday(h.dates[i]) {
-                return false;
-            }
-        }
-        i += 1;
-    }
-    say::out(b"\n")
+    say::out(rt, b"\n")
 }
 
-fn settings(s: customer::Settings) -> bool {
-    let bank = s.bank;
-    let software = s.software;
-    cli_shown::who(b"bank        ", &bank, 17)
-        && say::out(b"software    ")
-        && cli_shown::name(&software)
-        && say::out(b"\nfloor       ")
-        && cli_shown::number(s.floor as u64)
-        && say::out(b"\n")
+fn settings(rt: &HostRuntime, s: &customer::Settings) -> io::Result<()> {
+    cli_shown::who(rt, b"bank        ", &s.bank)?;
+    say::out(rt, b"software    ")?;
+    cli_shown::name(rt, &s.software)?;
+    say::out(rt, b"\nfloor       ")?;
+    cli_shown::number(rt, s.floor as u64)?;
+    say::out(rt, b"\n")
 }
 
-fn bank(t: &[u8]) -> bool {
-    say::out(b"day         ")
-        && date(table::day(t))
-        && say::out(b"\n")
-        && settings(table::settings(t))
-        && holidays(table::holidays_in(t))
-        && say::out(b"customers   ")
-        && cli_shown::number(table::customer_count(t) as u64)
-        && say::out(b"\n")
+// The line of the table's day.
+fn day(rt: &HostRuntime, t: &[u8]) -> io::Result<()> {
+    say::out(rt, b"day         ")?;
+    date(rt, table::day(t))?;
+    say::out(rt, b"\n")
+}
+
+fn bank(rt: &HostRuntime, t: &[u8]) -> io::Result<()> {
+    day(rt, t)?;
+    settings(rt, &table::settings(t))?;
+    holidays(rt, &table::holidays_in(t))?;
+    say::out(rt, b"customers   ")?;
+    cli_shown::number(rt, table::customer_count(t) as u64)?;
+    say::out(rt, b"\n")
 }
 
 // ---- a customer
 
-fn listed_type(k: u64, is_first: bool) -> bool {
-    if is_first {
-        return cli_shown::number(k);
+fn listed_type(rt: &HostRuntime, k: u64, is_first: bool) -> io::Result<()> {
+    if !is_first {
+        say::out(rt, b",")?;
     }
-    say::out(b",") && cli_shown::number(k)
+    cli_shown::number(rt, k)
 }
 
 // Type k is bit k - 1.
-fn types(mask: u32) -> bool {
+fn types(rt: &HostRuntime, mask: u32) -> io::Result<()> {
     if mask == 0 {
-        return say::out(b"-");
+        return say::out(rt, b"-");
     }
-    let mut rest = mask;
-    let mut k: u64 = 1;
     let mut is_first = true;
-    while k <= 16 {
+    let mut rest = mask;
+    for k in 1..17 {
         if rest % 2 == 1 {
-            if !listed_type(k, is_first) {
-                return false;
-            }
+            listed_type(rt, k, is_first)?;
             is_first = false;
         }
         rest = rest / 2;
-        k += 1;
     }
-    true
+    Ok(())
 }
 
 // The previous key's days; it stays good for a stamp dated within them as long as it is held.
-fn days(c: customer::Changeover, today: calendar::Date) -> bool {
-    let first = c.first;
-    let last = c.last;
-    let is_written = say::out(b" changeover ") && date(first) && say::out(b" to ") && date(last);
-    if is_written && last.before(today) {
-        return say::out(b" (past)");
+fn days(rt: &HostRuntime, c: &customer::Changeover, today: calendar::Date) -> io::Result<()> {
+    say::out(rt, b" changeover ")?;
+    date(rt, c.first)?;
+    say::out(rt, b" to ")?;
+    date(rt, c.last)?;
+    if c.last.before(today) {
+        return say::out(rt, b" (past)");
     }
-    is_written
+    Ok(())
 }
 
-fn previous(p: customer::Previous, today: calendar::Date) -> bool {
+fn previous(rt: &HostRuntime, p: customer::Previous, today: calendar::Date) -> io::Result<()> {
     let customer::Previous::Held(c) = p else {
-        return true;
+        return Ok(());
     };
-    say::out(b", previous ") && cli_shown::generation(c.generation, c.key) && days(c, today)
+    say::out(rt, b", previous ")?;
+    cli_shown::generation(rt, c.generation, c.key)?;
+    days(rt, &c, today)
 }
 
-fn key_pair(label: &[u8], k: customer::KeyPair, today: calendar::Date) -> bool {
-    let before = k.previous;
-    say::out(label)
-        && say::out(b"generation ")
-        && cli_shown::generation(k.generation, k.key)
-        && previous(before, today)
-        && say::out(b"\n")
+fn key_pair(
+    rt: &HostRuntime,
+    label: &[u8],
+    k: &customer::KeyPair,
+    today: calendar::Date,
+) -> io::Result<()> {
+    say::out(rt, label)?;
+    say::out(rt, b"generation ")?;
+    cli_shown::generation(rt, k.generation, k.key)?;
+    previous(rt, k.previous, today)?;
+    say::out(rt, b"\n")
 }
 
 // How many stamps are not too old on a day, with the first n dates for holidays.
 fn live(c: customer::Customer, today: calendar::Date, dates: &[u32], n: usize) -> u32 {
-    if dates.len() < n {
-        return 0;
+    match dates.get(..n) {
+        Some(dates) => acceptance::live_count(c, today, dates),
+        None => 0,
     }
-    acceptance::live_count(c, today, &dates[..n])
 }
 
-fn stamps(t: &[u8], c: customer::Customer) -> bool {
+fn stamps(rt: &HostRuntime, t: &[u8], c: customer::Customer) -> io::Result<()> {
     let h = table::holidays_in(t);
-    let dates = h.dates;
-    let n = live(c, table::day(t), &dates, h.count as usize);
-    say::out(b"  stamps     ") && cli_shown::number(n as u64) && say::out(b" of 64 held\n")
+    let n = live(c, table::day(t), &h.dates, h.count as usize);
+    say::out(rt, b"  stamps     ")?;
+    cli_shown::number(rt, n as u64)?;
+    say::out(rt, b" of 64 held\n")
 }
 
-fn permits(c: customer::Customer) -> bool {
-    yes_or_no(b"  agreed     ", c.agreed)
-        && yes_or_no(b"  leave      ", c.leave)
-        && say::out(b"  types      ")
-        && types(c.types)
-        && say::out(b"\n  changeover ")
-        && cli_shown::number(c.length.0 as u64)
-        && say::out(b" days\n")
+fn permits(rt: &HostRuntime, c: &customer::Customer) -> io::Result<()> {
+    yes_or_no(rt, b"  agreed     ", c.agreed)?;
+    yes_or_no(rt, b"  leave      ", c.leave)?;
+    say::out(rt, b"  types      ")?;
+    types(rt, c.types)?;
+    say::out(rt, b"\n  changeover ")?;
+    cli_shown::number(rt, c.length.0 as u64)?;
+    say::out(rt, b" days\n")
 }
 
-fn customer_at(t: &[u8], i: usize) -> bool {
+fn customer_at(rt: &HostRuntime, t: &[u8], i: usize) -> io::Result<()> {
     let c = table::load(t, i);
-    let identity = c.who;
-    let transport = c.transport;
-    let working = c.working;
     let today = table::day(t);
-    cli_shown::who(b"\ncustomer    ", &identity, 17)
-        && permits(c)
-        && key_pair(b"  transport  ", transport, today)
-        && key_pair(b"  working    ", working, today)
-        && stamps(t, c)
+    cli_shown::who(rt, b"\ncustomer    ", &c.who)?;
+    permits(rt, &c)?;
+    key_pair(rt, b"  transport  ", &c.transport, today)?;
+    key_pair(rt, b"  working    ", &c.working, today)?;
+    stamps(rt, t, c)
 }
 
-fn customers(t: &[u8]) -> bool {
-    let n = table::customer_count(t);
-    let mut i = 0;
-    while i < 32 {
-        if (i as u32) < n {
-            if !customer_at(t, i) {
-                return false;
-            }
+fn customers(rt: &HostRuntime, t: &[u8]) -> io::Result<()> {
+    let n = table::customer_count(t) as usize;
+    for i in 0..32 {
+        if i < n {
+            customer_at(rt, t, i)?;
         }
-        i += 1;
     }
-    true
+    Ok(())
 }
 
 // ---- the command
 
-fn shown(is_written: bool) -> Status {
+fn shown(rt: &HostRuntime, written: io::Result<()>) -> Result<Status, Told> {
     status::served_if(say::is_said(
+        rt,
         Program::Lentilpot,
-        is_written,
+        written,
         b"the table can't be shown: ",
     ))
 }
 
+fn whole(rt: &HostRuntime, t: &[u8]) -> io::Result<()> {
+    bank(rt, t)?;
+    customers(rt, t)
+}
+
+fn day_and_customer(rt: &HostRuntime, t: &[u8], i: usize) -> io::Result<()> {
+    day(rt, t)?;
+    customer_at(rt, t, i)
+}
+
 // The bank's day and one customer.
-fn one(t: &[u8], who: [u8; 25]) -> Status {
-    let found = table::find(t, who);
-    let table::Found::At(i) = found else {
-        return say::answer(Program::Lentilpot, 7);
-    };
-    let is_written = say::out(b"day         ") && date(table::day(t)) && say::out(b"\n");
-    shown(is_written && customer_at(t, i))
+fn one(rt: &HostRuntime, t: &[u8], who: [u8; 25]) -> Result<Status, Told> {
+    match table::find(t, who) {
+        table::Found::At(i) => shown(rt, day_and_customer(rt, t, i)),
+        _ => say::answer(rt, Program::Lentilpot, 7),
+    }
 }
 
-fn show_table(t: &[u8]) -> Status {
+fn show_table(rt: &HostRuntime, words: &Words, t: &[u8]) -> Result<Status, Told> {
     if !table::is_table(t) {
-        return say::answer(Program::Lentilpot, 2);
+        return say::answer(rt, Program::Lentilpot, 2);
     }
-    if options::count() == 3 {
-        return shown(bank(t) && customers(t));
+    if words.count() == 3 {
+        return shown(rt, whole(rt, t));
     }
-    let customer = cli_asked::who(Program::Lentilpot, 3, b"IDENTITY", b"QUALIFIER");
-    if !customer.good {
-        return Status::Trouble;
-    }
-    let who = customer.who;
-    one(t, who)
+    let who = cli_asked::who(
+        rt,
+        Program::Lentilpot,
+        words.word(3),
+        words.word(4),
+        b"IDENTITY",
+        b"QUALIFIER",
+    )?;
+    one(rt, t, who)
 }
 
-pub fn show() -> Status {
-    if !cli_help::are_as_many(6, 3, 5) {
-        return Status::Trouble;
-    }
-    if options::count() == 4 {
+pub fn show(rt: &HostRuntime, words: &Words) -> Result<Status, Told> {
+    cli_help::are_as_many(rt, words, 6, 3, 5)?;
+    if words.count() == 4 {
         say::expected(
+            rt,
             Program::Lentilpot,
             b"QUALIFIER",
             b"a word after IDENTITY, \"\" for a blank one",
         );
-        return Status::Trouble;
+        return Err(Told);
     }
-    if !options::are_taken(Program::Lentilpot, b"") {
-        return Status::Trouble;
-    }
-    let mut path = io::buffer();
-    let n = cli_names::of(Program::Lentilpot, 2, b"TABLE", &mut path);
-    if n == 0 {
-        return Status::Trouble;
-    }
+    words.are_taken(rt, Program::Lentilpot, b"")?;
+    let table = cli_names::of(rt, Program::Lentilpot, words.word(2), b"TABLE")?;
     let mut t = [0u8; 49152];
-    if !cli_table::load(Program::Lentilpot, &path[..n], &mut t) {
-        return Status::Trouble;
-    }
-    show_table(&t)
+    cli_table::load(rt, Program::Lentilpot, table.as_str(), &mut t)?;
+    show_table(rt, words, &t)
 }

@@ -1,47 +1,41 @@
-// What both programs' `show` have in common. Each part says whether it could be written.
-ghost use Rattle.std.specs.Prelude.{◌≤◌, length};
+// What both programs' `show` have in common.
+#![tactic(auto)]
 
 use cli_terminal::say;
-use libc::STDOUT_FILENO;
+use std::io;
 
-pub fn number(n: u64) -> bool {
-    io::print_decimal(STDOUT_FILENO, n)
+pub fn number(rt: &HostRuntime, n: u64) -> io::Result<()> {
+    print!(rt; "{n}")
 }
 
-// How long a name is without the blanks at its end.
-fn trimmed(s: &[u8]) -> usize
-    ensures { result ≤ length s.now }
-{
-    let mut n = s.len();
-    while 0 < n {
-        if s[n - 1] != b' ' {
-            return n;
-        }
-        n -= 1;
+// A name without the blanks at its end.
+fn trimmed(s: &[u8]) -> &[u8] {
+    match s.iter().rposition(|&b| b != b' ') {
+        Some(last) => &s[..=last],
+        None => b"",
     }
-    0
 }
 
 // A name in quotes, of which no name has any.
-pub fn name(s: &[u8]) -> bool {
-    let n = trimmed(s);
-    say::out(b"\"") && say::out(&s[..n]) && say::out(b"\"")
+pub fn name(rt: &HostRuntime, s: &[u8]) -> io::Result<()> {
+    say::out(rt, b"\"")?;
+    say::out(rt, trimmed(s))?;
+    say::out(rt, b"\"")
 }
 
-// An identity of n characters, and the qualifier after it.
-pub fn who(label: &[u8], who: &[u8], n: usize) -> bool {
-    if who.len() < n {
-        return false;
-    }
-    say::out(label)
-        && name(&who[..n])
-        && say::out(b" qualifier ")
-        && name(&who[n..])
-        && say::out(b"\n")
+// An identity of 17 characters, and the qualifier after it.
+pub fn who(rt: &HostRuntime, label: &[u8], who: &[u8; 25]) -> io::Result<()> {
+    say::out(rt, label)?;
+    name(rt, &who[..17])?;
+    say::out(rt, b" qualifier ")?;
+    name(rt, &who[17..])?;
+    say::out(rt, b"\n")
 }
 
 // A key by its generation and check value, never itself.
-pub fn generation(g: u32, key: u64) -> bool {
+pub fn generation(rt: &HostRuntime, g: u32, key: u64) -> io::Result<()> {
     let value = text::hex_digits(keys::check_value(key));
-    number(g as u64) && say::out(b" check value ") && say::out(&value[10..])
+    number(rt, g as u64)?;
+    say::out(rt, b" check value ")?;
+    say::out(rt, &value[10..])
 }

@@ -1,5 +1,5 @@
 // Which of the two programs says something: the bank's or the customer's. Nothing but words hangs on it.
-#[derive(Drop)]
+#[derive(Clone, Copy)]
 pub enum Program {
     Lentilpot,
     Bureau,

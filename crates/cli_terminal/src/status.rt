@@ -2,14 +2,18 @@
 ghost use Rattle.std.specs.Prelude.{◌<◌};
 
 // Served and every reply K; refused, or some reply E; trouble with words or files.
-#[derive(Drop)]
+#[derive(Clone, Copy)]
 pub enum Status {
     Served,
     Refused,
     Trouble,
 }
 
-pub fn number(s: Status) -> u32
+// What is the matter was told, and the command can't go on: it ends with trouble.
+#[derive(Clone, Copy)]
+pub struct Told;
+
+pub fn number(s: Status) -> u8
     ensures { result < 3 }
 {
     match s {
@@ -20,17 +24,16 @@ pub fn number(s: Status) -> u32
 }
 
 // Served, if what was to be said is said.
-pub fn served_if(is_said: bool) -> Status {
-    if is_said {
-        return Status::Served;
-    }
-    Status::Trouble
+pub fn served_if(said: Result<(), Told>) -> Result<Status, Told> {
+    said.map(|()| Status::Served)
 }
 
 // Refused, if what was to be said is said.
-pub fn refused_if(is_said: bool) -> Status {
-    if is_said {
-        return Status::Refused;
-    }
-    Status::Trouble
+pub fn refused_if(said: Result<(), Told>) -> Result<Status, Told> {
+    said.map(|()| Status::Refused)
+}
+
+// How a command ended.
+pub fn ended(by: Result<Status, Told>) -> Status {
+    by.unwrap_or(Status::Trouble)
 }

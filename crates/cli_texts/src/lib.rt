@@ -1,9 +1,13 @@
 // The sentences that people are shown, row by row, and how the sheet of a reply fills the places that they leave open.
+#![tactic(auto)]
+
 pub mod room;
 pub mod sheet;
 
 use crate::room::{put_byte, trimmed};
 use crate::sheet::{Sheet, place_of};
+use std::io;
+use std::io::Write;
 
 // Texts that are no code's.
 pub const NO_ESI: u64 = 2010;
@@ -56,7 +60,8 @@ pub const ENCLOSED: u64 = 5004;
 
 pub const COUNT: u64 = 5005;
 
-#[derive(Drop)]
+// A line, and how far it goes.
+#[derive(Clone, Copy)]
 pub struct Line {
     pub text: [u8; 1024],
     pub end: usize,
@@ -70,16 +75,11 @@ pub fn no_line() -> Line {
     }
 }
 
-fn is_put(fd: i32, text: [u8; 1024], end: usize) -> bool {
-    if 1024 < end {
-        return false;
+pub fn is_written<W: Write>(out: &mut W, l: &Line) -> io::Result<()> {
+    match l.text.get(..l.end) {
+        Some(text) => out.write_all(text),
+        None => Err(io::Error::from(io::ErrorKind::InvalidInput)),
     }
-    io::write_all(fd, &text[0..end])
-}
-
-pub fn is_written(fd: i32, l: Line) -> bool {
-    let text = l.text;
-    is_put(fd, text, l.end)
 }
 
 // Characters as they stand.
@@ -142,15 +142,12 @@ fn is_end(b: u8) -> bool {
 fn put_text(out: &mut [u8], at: usize, sheet: &[u8], rows: &[u8], from: usize) -> usize {
     let mut end = at;
     let mut before = 0;
-    let mut i = from;
-    while i < rows.len() {
-        let b = rows[i];
+    for &b in rows.iter().skip(from) {
         if is_end(b) {
             return end;
         }
         end = put_mark(out, end, sheet, before, b);
         before = b;
-        i += 1;
     }
     end
 }
@@ -178,26 +175,22 @@ fn beginning_of(key: u64) -> [u8; 6] {
 // Where the text of the row with that key begins; where there is none, the first row, which has no key.
 fn row_of(rows: &[u8], key: u64) -> usize {
     let beginning = beginning_of(key);
-    let mut i = 0;
-    while i < rows.len() {
+    for i in 0..rows.len() {
         if is_begun(rows, i, beginning) {
             return i;
         }
-        i += 1;
     }
     0
 }
 
 // The place past the next bar.
 fn past_bar(rows: &[u8], from: usize) -> usize {
-    let mut i = from;
-    while i < rows.len() {
+    for i in from..rows.len() {
         if rows[i] == b'|' {
             return i + 1;
         }
-        i += 1;
     }
-    i
+    from.max(rows.len())
 }
 
 // A row's first text, then its second, for a reply whose messages are at hand, or its third.

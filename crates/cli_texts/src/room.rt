@@ -40,18 +40,24 @@ fn put_shown(out: &mut [u8], at: usize, b: u8, letters: bool) -> usize {
 
 pub fn put_all(out: &mut [u8], at: usize, s: &[u8], letters: bool) -> usize {
     let mut end = at;
-    let mut i = 0;
-    while i < s.len() {
-        end = put_shown(out, end, s[i], letters);
-        i += 1;
+    for &b in s {
+        end = put_shown(out, end, b, letters);
     }
     end
 }
 
 pub fn put_number(out: &mut [u8], at: usize, n: u64) -> usize {
     let mut digits = [0u8; 20];
-    let k = io::decimal(n, &mut digits);
-    put_all(out, at, &digits[..k], false)
+    text::write_number(&mut digits, n);
+    put_all(out, at, without_zeros(&digits), false)
+}
+
+// Digits without the zeros at their beginning; a last one stays.
+fn without_zeros(digits: &[u8; 20]) -> &[u8] {
+    match digits.iter().position(|&d| d != b'0') {
+        Some(first) => &digits[first..],
+        None => b"0",
+    }
 }
 
 // A data type, after a comma where it isn't the first.
@@ -75,11 +81,9 @@ fn put_bit(out: &mut [u8], at: usize, rest: u32, k: u64, is_first: bool) -> usiz
 fn put_listed(out: &mut [u8], at: usize, mask: u32) -> usize {
     let mut end = at;
     let mut rest = mask;
-    let mut k: u64 = 1;
-    while k <= 16 {
+    for k in 1..17 {
         end = put_bit(out, end, rest, k, end == at);
         rest = rest / 2;
-        k += 1;
     }
     end
 }
@@ -100,12 +104,8 @@ pub fn put_quoted(out: &mut [u8], at: usize, s: &[u8]) -> usize {
 
 // How long a text is without the blanks at its end.
 pub fn trimmed(s: &[u8]) -> usize {
-    let mut n = s.len();
-    while 0 < n {
-        if s[n - 1] != b' ' {
-            return n;
-        }
-        n -= 1;
+    match s.iter().rposition(|&b| b != b' ') {
+        Some(last) => last + 1,
+        None => 0,
     }
-    0
 }

@@ -8,7 +8,7 @@
 //   G data type    H types allowed  I SUO's line        J faulty message's line           K VAR's line
 use crate::room::{put_all, put_number, put_quoted, put_types, trimmed};
 
-#[derive(Drop)]
+#[derive(Clone, Copy)]
 pub struct Sheet {
     pub text: [u8; 4736],
 }
@@ -95,7 +95,7 @@ fn name_end(m: [u8; 237], from: usize, to: usize) -> usize {
     if to < from {
         return 0;
     }
-    std::num::wrapping_add_usize(from, trimmed(&m[from..to]))
+    from.wrapping_add(trimmed(&m[from..to]))
 }
 
 pub fn with_name(sheet: Sheet, letter: u8, m: [u8; 237], from: usize, to: usize) -> Sheet {

@@ -1,4 +1,7 @@
 // The forms of the program's words: numbers, keys, names, types, yes or no, and a file of holidays. A word of another form is bad.
+
+#![tactic(auto)]
+
 ghost use Rattle.std.specs.Prelude.{◌≡◌, [], ◌∷◌, map, ◌+◌, leb, length, drop};
 ghost use Rattle.text.specs.Characters.{padded};
 ghost use Rattle.cli_words.specs.Parts.{up_to, split_at};

@@ -1,4 +1,7 @@
 // Numbers, bytes and runs of numbers at a place of a slice that has room for them: what a layout's fields are read and written by.
+
+#![tactic(auto)]
+
 ghost use Rattle.std.specs.Prelude.{◌≡◌, ◌+◌, ◌*◌, ◌≤◌, ◌<◌, leb, length};
 ghost use Rattle.ground.specs.Choice.{one};
 ghost use Rattle.ground.specs.Lists.{part, same};

@@ -1,10 +1,13 @@
 // A customer's record and a bank's settings, by value, and the tests of their parts: whether a table may hold them.
+
+#![tactic(auto)]
+
 ghost use Rattle.std.specs.Prelude.{◌≡◌};
 ghost use Rattle.customer.specs.Settings.{sound_name, sound_who, sound_settings};
 ghost use Rattle.customer.specs.Customer.{sound_previous, sound_keys, real_stamp, sound_once};
 
 // A previous key, with its changeover from the first to the last day.
-#[derive(Drop)]
+#[derive(Clone, Copy)]
 pub struct Changeover {
     pub generation: u32,
     pub key: u64,
@@ -12,14 +15,14 @@ pub struct Changeover {
     pub last: calendar::Date,
 }
 
-#[derive(Drop)]
+#[derive(Clone, Copy)]
 pub enum Previous {
     Nothing,
     Held(Changeover),
 }
 
 // The keys of one kind: the current one, and perhaps a previous one.
-#[derive(Drop)]
+#[derive(Clone, Copy)]
 pub struct KeyPair {
     pub generation: u32,
     pub key: u64,
@@ -28,7 +31,7 @@ pub struct KeyPair {
 
 // A customer: identity (17) and qualifier (8), data types (bit k - 1 for type k), agreement, leave to ask for keys, length of a
 // changeover, transport and working keys, and the stamps of accepted messages, each with the one-time key of a batch or 0.
-#[derive(Drop)]
+#[derive(Clone, Copy)]
 pub struct Customer {
     pub who: [u8; 25],
     pub types: u32,

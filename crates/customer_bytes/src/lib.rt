@@ -1,5 +1,8 @@
 // A customer's record and a bank's settings as bytes: read at a place, written at a place, and whether the bytes are exact. Each function
 // goes along the layout's fields with a place `at` that each field's width moves on.
+
+#![tactic(auto)]
+
 ghost use Rattle.std.specs.Prelude.{◌≡◌, true, ◌+◌, ◌*◌, ◌/◌, ◌≤◌, eqb, length};
 ghost use Rattle.splices.specs.Bytes.{splice, put};
 ghost use Rattle.ground.specs.Choice.{both};

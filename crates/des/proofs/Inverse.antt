@@ -68,7 +68,7 @@ permute-select w x acc us [] e = refl
 permute-select w x acc us (t ∷ ts) e =
     let h = named_at (length us) (t ∷ ts) e 0 (omega arith) in
     let i : length us - t ≡ length us - suc (t - 1) = omega arith in
-    rw (i, permuted_bit w x us (t - 1) (omega arith)) (permute-select w x _ us ts (named_tail (length us) t ts e))
+    rw (i, permuted_bit w x us (t - 1) (omega arith)) (permute-select w x (2 * acc + bit x (w - get_or us (t - 1) 0)) us ts (named_tail (length us) t ts e))
 
 -- the table 1, 2, .. of w bits leaves a number as it is; here from the last n bits on
 ups : ℕ → ℕ → List ℕ

@@ -1,4 +1,7 @@
 // DES (FIPS 46-3, ANSI X3.92): the round keys, the sixteen rounds, enciphering and deciphering.
+
+#![tactic(auto)]
+
 ghost use Rattle.std.specs.Prelude.{◌≡◌, reverse, ◌+◌, ◌*◌, ◌<◌, ◌^◌, get_or};
 ghost use Rattle.des.specs.Tables.{initial, final, choice1, choice2, shifts};
 ghost use Rattle.des.specs.Des.{permute, cipher, schedule_of, enciphered, deciphered};

@@ -1,4 +1,7 @@
 // The desk on the customer's side: what it holds, and what it finds in a reply of the bank's.
+
+#![tactic(auto)]
+
 ghost use Rattle.std.specs.Prelude.{◌≡◌, List, [], ◌∷◌, ◌++◌, ◌+◌, ◌-◌, ◌<◌, ◌≤◌, min};
 ghost use Rattle.ground.specs.Choice.{both, fails};
 ghost use Rattle.ground.specs.Lists.{part, same};
@@ -18,21 +21,21 @@ ghost use Rattle.desk.specs.Desk.{batch_sent_checks, desk_pte_checks, with_enclo
 ghost use Rattle.desk.specs.Desk.{checked_by, esi_checked, pte_checked};
 
 // A key with its generation.
-#[derive(Drop)]
+#[derive(Clone, Copy)]
 pub struct Numbered {
     pub generation: u32,
     pub key: u64,
 }
 
 // The key before the current one. It has no days on this side.
-#[derive(Drop)]
+#[derive(Clone, Copy)]
 pub enum Before {
     Nothing,
     Was(Numbered),
 }
 
 // The keys of one kind.
-#[derive(Drop)]
+#[derive(Clone, Copy)]
 pub struct Keys {
     pub generation: u32,
     pub key: u64,
@@ -40,7 +43,7 @@ pub struct Keys {
 }
 
 // A desk for one customer at one bank: both identities with their qualifiers, and the keys.
-#[derive(Drop)]
+#[derive(Clone, Copy)]
 pub struct Held {
     pub own: [u8; 25],
     pub bank: [u8; 25],
@@ -49,7 +52,7 @@ pub struct Held {
 }
 
 // A transport key as it came by letter: two parts, the check value, the generation.
-#[derive(Drop)]
+#[derive(Clone, Copy)]
 pub struct Parts {
     pub part1: u64,
     pub part2: u64,
@@ -58,14 +61,14 @@ pub struct Parts {
 }
 
 // A call's refusal, 0 where it was served, and the desk after it.
-#[derive(Drop)]
+#[derive(Clone, Copy)]
 pub struct Given {
     pub refusal: u32,
     pub held: Held,
 }
 
 // What was sent, as characters: an ESI's fields, or a SUO's with the generations and the digest of its VAR.
-#[derive(Drop)]
+#[derive(Clone, Copy)]
 pub struct Sent {
     pub receiver: [u8; 25],
     pub sender: [u8; 25],
@@ -78,14 +81,14 @@ pub struct Sent {
 }
 
 // All checks pass, or the code and the field of the first that fails.
-#[derive(Drop)]
+#[derive(Clone, Copy)]
 pub enum Finding {
     Passes,
     Fails { code: u32, field: u32 },
 }
 
 // What a check of a reply gives: the finding, the desk after it, and the bank's own letter and code, told also where the desk refuses.
-#[derive(Drop)]
+#[derive(Clone, Copy)]
 pub struct Checked {
     pub finding: Finding,
     pub held: Held,

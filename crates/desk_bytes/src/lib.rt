@@ -1,4 +1,7 @@
 // A desk and what was sent as bytes that a bureau keeps between calls. The offsets are those of docs/FORMAT.md.
+
+#![tactic(auto)]
+
 ghost use Rattle.std.specs.Prelude.{◌≡◌, ◌+◌, ◌≤◌, length};
 ghost use Rattle.codec.specs.Layout.{perhaps, enc, dec, ok, Sized};
 ghost use Rattle.splices.specs.Bytes.{splice};

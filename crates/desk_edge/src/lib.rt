@@ -1,4 +1,7 @@
 // The desk's calls for a box in C or Rust: numbers and byte slices; a desk and what was sent are lent bytes of one length each.
+
+#![tactic(auto)]
+
 pub mod builder;
 
 ghost use Rattle.std.specs.Prelude.{◌≡◌, [], ◌∷◌, eqb, length, take};

@@ -1,4 +1,7 @@
 // The form of what the bank sends back: its first fault.
+
+#![tactic(auto)]
+
 ghost use Rattle.std.specs.Prelude.{◌≡◌, List, [], ◌∷◌, ℕ, ◌-◌, ◌<◌, ◌≤◌, min, eqb, length, take, drop, get_or};
 ghost use Rattle.ground.specs.Choice.{pick};
 ghost use Rattle.ground.specs.Lists.{all, member, part, same};
@@ -11,7 +14,7 @@ ghost use Rattle.desk_form.specs.Replies.{reply_layout, reply_size, awaited, enc
 ghost use Rattle.desk_form.specs.Replies.{reply_format_fails, reply_value_fails, reply_checks};
 
 // The messages that a bank sends back.
-#[derive(Drop)]
+#[derive(Clone, Copy)]
 pub enum Reply {
     Esi,
     Pte,

@@ -1,4 +1,7 @@
 // The digest of a batch and the checksum of a message: the MAC of ISO 8731-1 over the internal code, as it runs.
+
+#![tactic(auto)]
+
 ghost use Rattle.std.specs.Prelude.{◌≡◌, ◌<◌, ◌≤◌, map, length, take};
 ghost use Rattle.text.specs.Characters.{internal};
 ghost use Rattle.des.specs.Joined.{joined_by};
@@ -7,7 +10,7 @@ ghost use Rattle.digest.specs.Kept.{stripped};
 ghost use Rattle.digest.specs.Running.{begun, pushed_all, fed_byte, fed_bytes, closed, answered, alike, took_bytes, took_last, ended};
 
 // SKH leaves out the blanks at the end of each record, SKE keeps them.
-#[derive(Drop)]
+#[derive(Clone, Copy)]
 pub enum Method {
     Skh,
     Ske,
@@ -21,7 +24,7 @@ pub enum Answer {
 }
 
 // What a digest keeps: the chain, the block so far, and the number of kept characters.
-#[derive(Drop)]
+#[derive(Clone, Copy)]
 pub struct State {
     pub chain: u64,
     pub block: u64,
@@ -29,7 +32,7 @@ pub struct State {
 }
 
 // A record on its way: the states at its start, after its last character that is no blank, after its last character.
-#[derive(Drop)]
+#[derive(Clone, Copy)]
 pub struct Running {
     pub start: State,
     pub solid: State,

@@ -1,4 +1,7 @@
 // The seven calls for a box in C or Rust: numbers and byte slices; the session is lent bytes of one length.
+
+#![tactic(auto)]
+
 ghost use Rattle.std.specs.Prelude.{◌≡◌, [], ◌%◌, ◌<◌, ◌^◌, eqb};
 ghost use Rattle.ground.specs.Choice.{pick, one};
 ghost use Rattle.session_bytes.specs.Session.{session_size};

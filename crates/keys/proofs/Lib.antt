@@ -2,5 +2,4 @@
 pub mod Odd
 pub mod Folds
 pub mod Laws
-pub mod Lent
 pub mod Making

@@ -1,11 +1,14 @@
 // Keys: parity, a transport key from its parts, check values, working key 0, generations, the key maker.
+
+#![tactic(auto)]
+
 ghost use Rattle.std.specs.Prelude.{◌≡◌};
 ghost use Rattle.keys.specs.Parity.{with_parity, odd_parity};
 ghost use Rattle.keys.specs.Keys.{combined, check_value, working_key0, next_generation};
 ghost use Rattle.keys.specs.Maker.{made_of, clock_value, key_of, next_seed};
 
 // The key maker: K and the seed V.
-#[derive(Drop)]
+#[derive(Clone, Copy)]
 pub struct KeyMaker {
     pub key: u64,
     pub seed: u64,

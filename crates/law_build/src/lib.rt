@@ -1,1 +1,3 @@
 // The builder and the bank: what is built is accepted. Laws, no code.
+
+#![tactic(auto)]

@@ -1,1 +1,3 @@
 // How the machine goes on over bytes cut in two, and what stays in its range: laws, no code.
+
+#![tactic(auto)]

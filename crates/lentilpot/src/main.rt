@@ -1,4 +1,8 @@
-// The program without an exit status: what it writes is compared. The one with it is the same function under a C main (program/main.c).
-fn main() {
-    cli_program::run();
+// The bank's program; its exit status says how a command ended.
+#![tactic(auto)]
+
+use std::process::ExitCode;
+
+fn main(rt: HostRuntime) -> ExitCode {
+    cli_program::run(&rt)
 }

@@ -1,4 +1,7 @@
 // The customer's messages ESI, SUO and VAR: their layout, their faults, and what their fields say.
+
+#![tactic(auto)]
+
 ghost use Rattle.std.specs.Prelude.{◌≡◌, List, [], ◌∷◌, ℕ, ◌-◌, ◌<◌, ◌≤◌, min, length, take, get_or};
 ghost use Rattle.ground.specs.Lists.{all, member, part};
 ghost use Rattle.text.specs.Characters.{digit, hex_digit};
@@ -14,7 +17,7 @@ ghost use Rattle.message.specs.Fields.{receiver_of, sender_of, stamp_of, date_of
 ghost use Rattle.message.specs.Fields.{working_generation_of, once_field_of, digest_field_of, checksum_field_of, request_of};
 
 // The messages that customers send.
-#[derive(Drop)]
+#[derive(Clone, Copy)]
 pub enum Kind {
     Esi,
     Suo,
@@ -22,7 +25,7 @@ pub enum Kind {
 }
 
 // What was collected of a message: the whole, or why it is one record alone or has no end.
-#[derive(Drop)]
+#[derive(Clone, Copy)]
 pub enum Extent {
     Whole,
     TooShort,
@@ -32,14 +35,14 @@ pub enum Extent {
 }
 
 // Which message a check is about: the one that is answered (an ESI, a frame's SUO), or the one that closes a frame (its VAR).
-#[derive(Drop)]
+#[derive(Clone, Copy)]
 pub enum About {
     Answered,
     Closing,
 }
 
 // A message as it was collected: how much of it, whether the characters over in its last record were blank, and its characters.
-#[derive(Drop)]
+#[derive(Clone, Copy)]
 pub struct Collected {
     pub extent: Extent,
     pub blank: bool,
@@ -47,14 +50,14 @@ pub struct Collected {
 }
 
 // The characters of a field as received: how many there are, and zeros after them.
-#[derive(Drop)]
+#[derive(Clone, Copy)]
 pub struct Contents {
     pub count: usize,
     pub text: [u8; 17],
 }
 
 // No fault, or the code, the field (its number as specs/Layout.antt writes it, 0 where none is named) and the message that it is of.
-#[derive(Drop)]
+#[derive(Clone, Copy)]
 pub enum Fault {
     Sound,
     Found { code: u32, field: u32, about: About },

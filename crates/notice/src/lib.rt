@@ -1,4 +1,7 @@
 // The codes that replies give: accepted or in error, bare or full, and the text of each in the notice.
+
+#![tactic(auto)]
+
 ghost use Rattle.std.specs.Prelude.{◌≡◌, [], ◌++◌, map, ◌+◌, ◌-◌, ◌<◌, ◌≤◌, min, length, take};
 ghost use Rattle.ground.specs.Choice.{pick};
 ghost use Rattle.ground.specs.Lists.{part};

@@ -1,4 +1,7 @@
 // The bytes of a file up to the first reply, and the end of a last record that no LF ended.
+
+#![tactic(auto)]
+
 ghost use Rattle.std.specs.Prelude.{◌≡◌, true, false, ◌+◌, ◌<◌, ◌≤◌, length};
 ghost use Rattle.des.specs.Des.{schedule_of};
 ghost use Rattle.des.specs.Joined.{joined, joined_by};

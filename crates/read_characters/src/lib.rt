@@ -1,4 +1,7 @@
 // Characters of the record on its way.
+
+#![tactic(auto)]
+
 ghost use Rattle.std.specs.Prelude.{◌≡◌, ◌+◌, ◌≤◌, min, eqb, ltb, length};
 ghost use Rattle.ground.specs.Choice.{both, either};
 ghost use Rattle.des.specs.Joined.{joined_by};

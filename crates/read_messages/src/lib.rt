@@ -1,5 +1,8 @@
 // Messages as their records come: what begins one, whether it is one record alone,
 // whether it wants more; and what a collected one does to a session and to the table.
+
+#![tactic(auto)]
+
 ghost use Rattle.std.specs.Prelude.{◌≡◌, false, List, [], ℕ, ◌≤◌, min, length, take, drop};
 ghost use Rattle.ground.specs.Choice.{between};
 ghost use Rattle.ground.specs.Lists.{same};

@@ -1,4 +1,7 @@
 // What a record's end, a byte past the size limit and the file's end do to a session and to the table.
+
+#![tactic(auto)]
+
 ghost use Rattle.std.specs.Prelude.{◌≡◌};
 ghost use Rattle.session.specs.Events.{esi_on, suo_on, var_on, esi_start, suo_start, var_start, first_ends, outside_ends, frame_ends};
 ghost use Rattle.session.specs.Events.{collecting_ends, record_ended, passed, cut_short, file_ended};

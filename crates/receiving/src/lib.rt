@@ -1,4 +1,7 @@
 // A caller of the front end: a whole file, in reads of one size. Its promise names no size, for the answers do not depend on it.
+
+#![tactic(auto)]
+
 ghost use Rattle.std.specs.Prelude.{◌≡◌, ◌+◌, ◌<◌, ◌≤◌, ◌^◌, [], ◌∷◌, length, replicate};
 ghost use Rattle.calls.specs.Reading.{opening_answer, read_done, end_done};
 ghost use Rattle.law_protocol.specs.Ready.{Good, EndGood};

@@ -1,4 +1,7 @@
 // What stands in the way of a call: each condition of document 01's table of refusals that more than a comparison decides.
+
+#![tactic(auto)]
+
 ghost use Rattle.std.specs.Prelude.{◌≡◌, eqb};
 ghost use Rattle.ground.specs.Choice.{either};
 ghost use Rattle.ground.specs.Lists.{all};
@@ -9,7 +12,7 @@ ghost use Rattle.refusals.specs.Refusals.{bad_day, table_full, already_there, ev
 ghost use Rattle.refusals.specs.Length.{length_of};
 
 // A changeover length: given, or left out.
-#[derive(Drop)]
+#[derive(Clone, Copy)]
 pub enum Length {
     Given(calendar::CalendarDays),
     LeftOut,

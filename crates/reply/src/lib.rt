@@ -1,4 +1,7 @@
 // The bank's replies, ESI and PTE, composed into lent room.
+
+#![tactic(auto)]
+
 ghost use Rattle.std.specs.Prelude.{◌≡◌, [], ◌++◌, ◌+◌, ◌%◌, ◌≤◌, length, take, replicate};
 ghost use Rattle.ground.specs.Choice.{pick};
 ghost use Rattle.ground.specs.Lists.{part};
@@ -13,7 +16,7 @@ ghost use Rattle.reply.specs.Putting.{Put, marks};
 // What a reply answers: ESI or PTE, bare or full, code, field and its contents, the opening's time, the bank and its software, the message
 // (a frame's SUO) and the one that closed it (the VAR), the working key of the message's generation, its transport key, and the key to
 // enclose.
-#[derive(Drop)]
+#[derive(Clone, Copy)]
 pub struct Answering {
     pub pte: bool,
     pub bare: bool,

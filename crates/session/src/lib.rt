@@ -1,4 +1,7 @@
 // The session of a file on its way, and what each event does to it and to the table.
+
+#![tactic(auto)]
+
 ghost use Rattle.std.specs.Prelude.{◌≡◌, min, take};
 ghost use Rattle.whole_file.specs.Messages.{wanted_length};
 ghost use Rattle.whole_file.specs.WholeFile.{occasion};
@@ -7,14 +10,14 @@ ghost use Rattle.session.specs.Machine.{opened, unopened, with_line};
 ghost use Rattle.session.specs.Ranges.{is_cut, is_closed, in_range, end_refused, read_refused};
 
 // The bytes' side: how many were taken, and whether a CR waits for the byte after it.
-#[derive(Drop)]
+#[derive(Clone, Copy)]
 pub struct Line {
     pub size: u32,
     pub cr: bool,
 }
 
 // Where the reader stands.
-#[derive(Drop)]
+#[derive(Clone, Copy)]
 pub enum Place {
     BeforeEsi,
     Outside,
@@ -25,7 +28,7 @@ pub enum Place {
 
 // The record or message on its way: how many characters it has, up to the longest message's; whether those past its stated length that are
 // not kept were all blank; and the first 161.
-#[derive(Drop)]
+#[derive(Clone, Copy)]
 pub struct Gathered {
     pub count: usize,
     pub blank: bool,
@@ -33,7 +36,7 @@ pub struct Gathered {
 }
 
 // The open frame: its SUO, the one-time key deciphered at the SUO's end, and the digest of its records.
-#[derive(Drop)]
+#[derive(Clone, Copy)]
 pub struct Batch {
     pub suo: message::Collected,
     pub once: changeover::Key,
@@ -42,7 +45,7 @@ pub struct Batch {
 
 // A file on its way: whether it was opened, an end was signalled (and another reply is due), 1023 was told; what was given at opening; the
 // keys made in this file; its ESI's sender; where the reader stands.
-#[derive(Drop)]
+#[derive(Clone, Copy)]
 pub struct Session {
     pub opened: bool,
     pub ended: bool,

@@ -1,4 +1,7 @@
 // A session as bytes that a host keeps between calls. The offsets are those of docs/FORMAT.md.
+
+#![tactic(auto)]
+
 ghost use Rattle.std.specs.Prelude.{◌≡◌, ◌+◌, ◌≤◌, length};
 ghost use Rattle.splices.specs.Bytes.{splice};
 ghost use Rattle.codec.specs.Layout.{perhaps, enc, dec, ok, Sized};

@@ -1,4 +1,7 @@
 // A table of customers kept as bytes in a lent buffer.
+
+#![tactic(auto)]
+
 mod parts;
 mod tests;
 

@@ -1,10 +1,13 @@
 // The four calls that keep a table: set up, add a customer, enter a transport key, order a new working key.
+
+#![tactic(auto)]
+
 ghost use Rattle.std.specs.Prelude.{◌≡◌};
 ghost use Rattle.table_calls.specs.Promises.{MeetsKeeping};
 ghost use Rattle.table_calls.specs.Calls.{new_customer, setting_up_answer, setting_up_leaves, adding_answer, adding_leaves, entering_answer};
 ghost use Rattle.table_calls.specs.Calls.{entering_leaves, ordering_answer, ordering_leaves};
 
-#[derive(Drop)]
+#[derive(Clone, Copy)]
 pub struct Setting {
     pub bank: [u8; 25],
     pub software: [u8; 16],
@@ -13,7 +16,7 @@ pub struct Setting {
     pub seed: u64,
 }
 
-#[derive(Drop)]
+#[derive(Clone, Copy)]
 pub struct Adding {
     pub today: calendar::Date,
     pub who: [u8; 25],
@@ -27,7 +30,7 @@ pub struct Adding {
     pub length: refusals::Length,
 }
 
-#[derive(Drop)]
+#[derive(Clone, Copy)]
 pub struct Entering {
     pub today: calendar::Date,
     pub who: [u8; 25],
@@ -37,7 +40,7 @@ pub struct Entering {
     pub generation: u32,
 }
 
-#[derive(Drop)]
+#[derive(Clone, Copy)]
 pub struct Ordering {
     pub today: calendar::Date,
     pub who: [u8; 25],

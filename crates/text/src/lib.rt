@@ -1,4 +1,7 @@
 // Characters: the internal code, the field characters, digits and hex digits, blanks; copying and comparing.
+
+#![tactic(auto)]
+
 ghost use Rattle.std.specs.Prelude.{◌≡◌, ◌%◌, length, take, replicate};
 ghost use Rattle.ground.specs.Choice.{between};
 ghost use Rattle.ground.specs.Lists.{all, same, overlay};

@@ -15,7 +15,7 @@ pub const REPLY: usize = 768;
 pub const TABLE: usize = 1280;
 
 // How long each is; how many numbers are lent as a maker, and these.
-#[derive(Drop)]
+#[derive(Clone, Copy)]
 pub struct Lengths {
     pub held: usize,
     pub batch: usize,
@@ -26,7 +26,7 @@ pub struct Lengths {
 }
 
 // What is in hand and what is kept; of the file how many bytes there are and how many were taken.
-#[derive(Drop)]
+#[derive(Clone, Copy)]
 pub struct Hand {
     pub now: Lengths,
     pub kept: Lengths,

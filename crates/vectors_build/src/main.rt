@@ -1,6 +1,9 @@
 // Runs a script of calls on the builder, with the desk and the bank beside it, and writes what each of them gives and what it wrote. The
 // independent model in rust/model runs the same script (its binary `build_script`, which also makes it); what it writes is this program's
 // stdout.
+
+#![tactic(auto)]
+
 mod bank;
 mod builds;
 mod hand;

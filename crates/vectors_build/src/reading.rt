@@ -4,7 +4,7 @@ use vectors_words::least;
 use vectors_words::say::words;
 
 // How far it came: what is in hand, and the last call's refusal and whether it said finished.
-#[derive(Drop)]
+#[derive(Clone, Copy)]
 pub struct Turned {
     pub hand: Hand,
     pub refusal: u32,
@@ -12,7 +12,7 @@ pub struct Turned {
 }
 
 // Ends, or reads of so many bytes.
-#[derive(Drop)]
+#[derive(Clone, Copy)]
 pub struct Asked {
     pub ending: bool,
     pub cut: usize,

@@ -1,4 +1,7 @@
 // The calendar on known dates: each line is a label and an answer.
+
+#![tactic(auto)]
+
 use calendar::{CalendarDays, Date};
 
 fn put(label: &[u8], answer: &[u8]) {

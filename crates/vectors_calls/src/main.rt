@@ -1,5 +1,8 @@
 // Runs a script of calls on the seven calls of the front end, and writes what each of them answers. The independent model
 // in rust/model runs the same script (its binary `script`, which also makes it); what it writes is this program's stdout.
+
+#![tactic(auto)]
+
 mod lines;
 mod reading;
 mod registering;

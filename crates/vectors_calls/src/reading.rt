@@ -2,7 +2,7 @@
 use vectors_words::{least, small_at};
 
 // What is in hand: a session, and of the file how many bytes there are and how many were taken.
-#[derive(Drop)]
+#[derive(Clone, Copy)]
 pub struct Hand {
     pub session: session::Session,
     pub length: usize,
@@ -11,7 +11,7 @@ pub struct Hand {
 
 // What a line asks for: a whole file from its first byte on, or one call;
 // ends, or reads of so many bytes at most; with that room; so much of each reply is shown.
-#[derive(Drop)]
+#[derive(Clone, Copy)]
 pub struct Asked {
     pub whole: bool,
     pub ending: bool,

@@ -1,6 +1,8 @@
 // Published known answers of DES, each enciphered and deciphered again by the proved code: the four tables of
 // NIST SP 800-17, a worked example, and Rivest's chain. docs/VECTORS.md says where each is from.
 
+#![tactic(auto)]
+
 const PERMUTATION_KEYS: [u64; 32] = [
     0x1046913489980131,
     0x1007103489988020,

@@ -44,7 +44,7 @@ const KEEP: u64 = 0x6B656570;
 const BACK: u64 = 0x6261636B;
 
 // How many bytes are lent as a desk and for what was sent, and how many characters the reply has.
-#[derive(Drop)]
+#[derive(Clone, Copy)]
 pub struct Lengths {
     pub held: usize,
     pub sent: usize,
@@ -52,7 +52,7 @@ pub struct Lengths {
 }
 
 // The lengths of what is in hand and of what is kept, those of the two messages, and how many words are lent.
-#[derive(Drop)]
+#[derive(Clone, Copy)]
 pub struct Hand {
     pub now: Lengths,
     pub kept: Lengths,

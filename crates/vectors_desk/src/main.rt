@@ -1,5 +1,8 @@
 // Runs a script of calls on a desk, and writes what each of them gives and the bytes that it changed. The independent model in
 // rust/model runs the same script (its binary `desk_script`, which also makes it); what it writes is this program's stdout.
+
+#![tactic(auto)]
+
 mod lines;
 
 // The lines of a script, one after the other.

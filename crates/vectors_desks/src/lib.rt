@@ -1,4 +1,7 @@
 // The desk's calls, each from a script's line.
+
+#![tactic(auto)]
+
 use vectors_words::{bytes_at, check_at, hex_at, least, small_at};
 
 // The bytes before a call.

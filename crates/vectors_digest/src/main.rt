@@ -1,7 +1,12 @@
 // Digests and checksums that can be compared with another implementation: one labelled line each.
+
+#![tactic(auto)]
+
 ghost use Rattle.std.specs.Prelude.{◌<◌};
 
 use digest::{Answer, Method};
+
+const STDOUT_FILENO: i32 = 1;
 
 fn digit(x: u64) -> u8 {
     let d = (x % 16) as u8;
@@ -28,16 +33,16 @@ fn put(label: &[u8], x: u64) {
         digit(x),
         b'\n',
     ];
-    io::write_all(libc::STDOUT_FILENO, label);
-    io::write_all(libc::STDOUT_FILENO, &line);
+    io::write_all(STDOUT_FILENO, label);
+    io::write_all(STDOUT_FILENO, &line);
 }
 
 fn put_answer(label: &[u8], a: Answer) {
     match a {
         Answer::Is(x) => put(label, x),
         Answer::NoCharacters => {
-            io::write_all(libc::STDOUT_FILENO, label);
-            io::write_all(libc::STDOUT_FILENO, b"no characters\n");
+            io::write_all(STDOUT_FILENO, label);
+            io::write_all(STDOUT_FILENO, b"no characters\n");
         }
     }
 }

@@ -1,6 +1,11 @@
 // The key vectors of document 001, appendix 3, a key maker whose clock is carried round, the parity of every byte in every place and of
 // every bit: one labelled line each.
+
+#![tactic(auto)]
+
 ghost use Rattle.std.specs.Prelude.{◌≤◌};
+
+const STDOUT_FILENO: i32 = 1;
 
 fn digit(x: u64) -> u8 {
     let d = (x % 16) as u8;
@@ -30,13 +35,13 @@ fn put(label: &[u8], x: u64, skip: usize)
         digit(x),
         b'\n',
     ];
-    io::write_all(libc::STDOUT_FILENO, label);
-    io::write_all(libc::STDOUT_FILENO, &line[skip..]);
+    io::write_all(STDOUT_FILENO, label);
+    io::write_all(STDOUT_FILENO, &line[skip..]);
 }
 
 // A label, whether the key's parity is odd, and the key.
 fn put_parity(label: &[u8], key: u64) {
-    io::write_all(libc::STDOUT_FILENO, label);
+    io::write_all(STDOUT_FILENO, label);
     if keys::has_odd_parity(key) {
         put(b"odd parity: ", key, 0);
     } else {

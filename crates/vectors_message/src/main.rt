@@ -1,4 +1,7 @@
 // Messages with one field changed, or two, and the fault that each has.
+
+#![tactic(auto)]
+
 use message::{About, Extent, Fault, Kind};
 
 fn say(words: &[u8]) {

@@ -1,6 +1,9 @@
 // Replies as they look: document 01's, each code, each field that a code names, keys held or not, and rooms too short.
 // Each line is what `write` gave, and the whole room of 320 bytes, which held dots before.
 // Then the messages of appendix 3 of document 001 with their checksums.
+
+#![tactic(auto)]
+
 use changeover::Key;
 use reply::Answering;
 

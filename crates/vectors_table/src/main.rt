@@ -1,6 +1,10 @@
 // Writes tables, reads them back, and shows that each kind of damage makes them no table.
+
+#![tactic(auto)]
+
 use customer::{Changeover, Customer, KeyPair, Previous};
-use libc::STDOUT_FILENO;
+
+const STDOUT_FILENO: i32 = 1;
 
 fn say(text: &[u8]) {
     io::write_all(STDOUT_FILENO, text);

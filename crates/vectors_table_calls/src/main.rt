@@ -1,8 +1,12 @@
 // The calls that keep a table: each refusal, each pair that competes, appendix 3's customer, and changeovers. One labelled line each.
+
+#![tactic(auto)]
+
 use calendar::CalendarDays;
-use libc::STDOUT_FILENO;
 use refusals::Length;
 use table_calls::{Adding, Entering, Ordering, Setting};
+
+const STDOUT_FILENO: i32 = 1;
 
 const PART1: u64 = 0xF18C57209492FEB3;
 

@@ -5,6 +5,9 @@
 // and one after; two texts put into the SUO. A text follows its place, three digits. The marks:
 // E or F for an ESI or a frame; the data type; 0, or 1 to 3 for a SUO that is one record alone; the same for the ESI or VAR;
 // the one-time key (O right, U used, P of even parity, M none held); the data's digest (D, or N where there are no characters).
+
+#![tactic(auto)]
+
 ghost use Rattle.std.specs.Prelude.{◌≤◌, length};
 
 const WORKING: u64 = 0x0123456789ABCDEF;

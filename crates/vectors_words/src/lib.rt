@@ -1,5 +1,8 @@
 // What the programs that run a script share: its lines, the words of a line, which are apart by one blank, the numbers and bytes that they
 // write, and what is written of them.
+
+#![tactic(auto)]
+
 pub mod say;
 
 ghost use Rattle.std.specs.Prelude.{◌<◌, ◌≤◌, length};

@@ -1,4 +1,7 @@
 // The verdict on an ESI or a frame: the first failing check, and what acceptance changes.
+
+#![tactic(auto)]
+
 ghost use Rattle.std.specs.Prelude.{◌≡◌};
 ghost use Rattle.ground.specs.Choice.{pick};
 ghost use Rattle.acceptance.specs.Stamps.{with_stamp};
@@ -8,7 +11,7 @@ ghost use Rattle.verdict.specs.Outcomes.{grant_to, outcome_of, is_sound, stored_
 ghost use Rattle.verdict.specs.Outcomes.{frame_outcome, frame_leaves};
 
 // The answer: code, field and the message that the field is of, the key to enclose, and the keys made in this file then.
-#[derive(Drop)]
+#[derive(Clone, Copy)]
 pub struct Outcome {
     pub code: u32,
     pub field: u32,

@@ -1,1 +1,3 @@
 // The answer to a whole file: definitions and laws, no code.
+
+#![tactic(auto)]

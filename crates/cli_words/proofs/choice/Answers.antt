@@ -1,0 +1,22 @@
+-- The word is compared with each of the two in turn.
+use mathlib.Core.Path.{sym, ◌∙◌}
+use Rattle.ground.proofs.Choices.{picks, skips}
+use Rattle.text.specs.Letters.{letters}
+use Rattle.cli_words.specs.Forms.{choice_of}
+use Rattle.cli_words.proofs.choice.Goals as goal
+
+pub returns-then-same_bytes : goal.returns-then-same_bytes
+unfolding choice_of letters
+returns-then-same_bytes c = sym (picks _ _ _ (sym c.same_bytes.ensures ∙ c.if-same_bytes.true))
+
+pub returns-then-same_bytes-2 : goal.returns-then-same_bytes-2
+unfolding choice_of letters
+returns-then-same_bytes-2 c =
+    sym (skips _ _ _ (sym c.same_bytes.ensures ∙ c.if-same_bytes.false)
+    ∙ picks _ _ _ (sym c.same_bytes-2.ensures ∙ c.if-same_bytes-2.true))
+
+pub returns : goal.returns
+unfolding choice_of letters
+returns c =
+    sym (skips _ _ _ (sym c.same_bytes.ensures ∙ c.if-same_bytes.false)
+    ∙ skips _ _ _ (sym c.same_bytes-2.ensures ∙ c.if-same_bytes-2.false))

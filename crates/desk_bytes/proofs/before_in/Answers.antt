@@ -1,0 +1,20 @@
+-- What is read is the fields, one after the other; where the first byte is not 1 there is none.
+use mathlib.Core.Path.{sym, ap, ◌∙◌}
+use mathlib.Core.Option.{some}
+use Rattle.codec.specs.Layout.{dec, width}
+use Rattle.codec.proofs.Laws.{dec-none, dec_some}
+use Rattle.desk_bytes.specs.Layout.{numbered_shape, before_from}
+use Rattle.desk_bytes.proofs.before_in.Goals as goal
+
+pub returns-then-read1-ne1 : goal.returns-then-read1-ne1
+returns-then-read1-ne1 c =
+    let a = c.args in
+    sym (ap before_from (dec-none numbered_shape a.at a.b.now (λ e. c.if-read1-ne1.true (c.read1.ensures ∙ e))))
+
+pub returns : goal.returns
+unfolding dec width
+returns c =
+    let a = c.args in
+    let e = sym c.read1.ensures ∙ c.if-read1-ne1.false in
+    (λ i. before_from (some (c.read1-generation.ensures i, c.read8-key.ensures i)))
+    ∙ sym (ap before_from (dec_some numbered_shape a.at a.b.now e))

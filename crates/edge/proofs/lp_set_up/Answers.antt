@@ -1,0 +1,13 @@
+-- The call below is handed what the numbers and bytes say.
+use Rattle.calls.specs.Calls.{refusal_of, left_by}
+use Rattle.edge.specs.Edge.{setting_by}
+use Rattle.edge.proofs.Made.{set_up_made}
+use Rattle.edge.proofs.lp_set_up.Goals as goal
+
+pub returns : goal.returns
+unfolding setting_by refusal_of left_by
+returns c =
+    let k = c.set_up.ensures in
+    let bank = c.fixed25.ensures in
+    let software = c.fixed16.ensures in
+    set_up_made (rw (← bank, ← software) (k.answers, k.leaves))

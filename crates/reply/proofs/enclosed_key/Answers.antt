@@ -1,0 +1,17 @@
+-- A bare reply encloses no key, and else the transport key decides.
+use mathlib.Core.Path.{sym}
+use Rattle.ground.proofs.Choices.{picks, skips}
+use Rattle.reply.specs.Reply.{enclosed_key, sealed}
+use Rattle.reply.proofs.enclosed_key.Goals as goal
+
+pub returns-then-a : goal.returns-then-a
+unfolding enclosed_key
+returns-then-a c = sym (picks _ _ _ c.if-a.true)
+
+pub returns-in-Missing : goal.returns-in-Missing
+unfolding enclosed_key sealed
+returns-in-Missing c = rw (skips _ _ _ c.if-a.false, c.in-Missing.is)
+
+pub returns-in-Is : goal.returns-in-Is
+unfolding enclosed_key
+returns-in-Is c = rw (skips _ _ _ c.if-a.false, c.in-Is.is) c.seal.ensures

@@ -1,0 +1,24 @@
+-- Each place has its own answer.
+use mathlib.Core.Path.{sym, ap}
+use Rattle.session.specs.Events.{is_due}
+use Rattle.session.proofs.is_due.Goals as goal
+
+pub returns-in-BeforeEsi : goal.returns-in-BeforeEsi
+unfolding is_due
+returns-in-BeforeEsi c = sym (ap is_due c.in-BeforeEsi.is)
+
+pub returns-in-Outside : goal.returns-in-Outside
+unfolding is_due
+returns-in-Outside c = sym (ap is_due c.in-Outside.is)
+
+pub returns-in-Collecting : goal.returns-in-Collecting
+unfolding is_due
+returns-in-Collecting c = sym (ap is_due c.in-Collecting.is)
+
+pub returns-in-InData : goal.returns-in-InData
+unfolding is_due
+returns-in-InData c = sym (ap is_due c.in-InData.is)
+
+pub returns-in-Closed : goal.returns-in-Closed
+unfolding is_due
+returns-in-Closed c = sym (ap is_due c.in-Closed.is)

@@ -1,0 +1,7 @@
+-- The numbers are read one after the other.
+use Rattle.codec.specs.Layout.{dec, width}
+use Rattle.session_bytes.proofs.state_at.Goals as goal
+
+pub returns : goal.returns
+unfolding dec width
+returns c = λ i. record { chain = c.read8-chain.ensures i; block = c.read8-block.ensures i; n = c.read8-n.ensures i }

@@ -1,0 +1,10 @@
+-- The count stands in the header.
+use mathlib.Core.Path.{ap, ◌∙◌}
+use Prim.Native.Nat.{min}
+use native.Mathlib.Omega.{arith}
+use Rattle.codec.specs.Layout.{width, dec}
+use Rattle.table.proofs.parts.count_customers.Goals as goal
+
+pub returns : goal.returns
+unfolding dec width
+returns c = (c.at_most.ensures ∙ ap (min 32) c.read4.ensures, omega (arith, c.at_most.ensures))
