@@ -29,7 +29,7 @@ pub fn check(rt: &HostRuntime, words: &Words) -> Result<Status, Told> {
     bureau_help::are_as_many(rt, words, 4, 4, 5)?;
     words.are_taken(rt, Program::Bureau, b"")?;
     let path = cli_names::of_kept(rt, Program::Bureau, words.word(2), b"DESK")?;
-    check_words(rt, words, path.as_str())
+    check_words(rt, words, path.as_slice())
 }
 
 // The number of a file; 0 where the word is left out.
@@ -48,23 +48,23 @@ fn number(rt: &HostRuntime, words: &Words) -> Result<u32, Told> {
     )
 }
 
-fn check_words(rt: &HostRuntime, words: &Words, path: &str) -> Result<Status, Told> {
+fn check_words(rt: &HostRuntime, words: &Words, path: &[u8]) -> Result<Status, Told> {
     let name = cli_names::of(rt, Program::Bureau, words.word(3), b"REPLIES")?;
     let file = number(rt, words)?;
     let mut input = cli_beside::open_told(
         rt,
         Program::Bureau,
         b"can't open the replies",
-        name.as_str(),
+        name.as_slice(),
     )?;
-    check_read(rt, path, name.as_str(), &mut input, file as u64)
+    check_read(rt, path, name.as_slice(), &mut input, file as u64)
 }
 
 // All the replies at once: those of 64 messages are some 20,000 bytes.
 fn check_read(
     rt: &HostRuntime,
-    path: &str,
-    name: &str,
+    path: &[u8],
+    name: &[u8],
     input: &mut File,
     file: u64,
 ) -> Result<Status, Told> {
@@ -85,7 +85,7 @@ fn check_read(
 
 // ---- the desk
 
-fn check_locked(rt: &HostRuntime, path: &str, r: &[u8], asked: u64) -> Result<Status, Told> {
+fn check_locked(rt: &HostRuntime, path: &[u8], r: &[u8], asked: u64) -> Result<Status, Told> {
     let h = cli_held::take(rt, Program::Bureau, path)?;
     let mut d = [0u8; 16640];
     match loaded_for(rt, path, &mut d, r, asked) {
@@ -100,7 +100,7 @@ fn check_locked(rt: &HostRuntime, path: &str, r: &[u8], asked: u64) -> Result<St
 // Loads the desk; the file that the replies are about.
 fn loaded_for(
     rt: &HostRuntime,
-    path: &str,
+    path: &[u8],
     d: &mut [u8],
     r: &[u8],
     asked: u64,
@@ -110,7 +110,7 @@ fn loaded_for(
 }
 
 // The file that the replies are about, or what is the matter.
-fn file_of(rt: &HostRuntime, path: &str, d: &[u8], r: &[u8], asked: u64) -> Result<u64, Told> {
+fn file_of(rt: &HostRuntime, path: &[u8], d: &[u8], r: &[u8], asked: u64) -> Result<u64, Told> {
     if asked != 0 {
         if replies::next_of(d, asked, 0, 0) < replies::NONE {
             return Ok(asked);
@@ -139,7 +139,7 @@ fn file_of(rt: &HostRuntime, path: &str, d: &[u8], r: &[u8], asked: u64) -> Resu
 // Checks all, saves the desk where it changed, then lists what was found.
 fn check_file(
     rt: &HostRuntime,
-    path: &str,
+    path: &[u8],
     h: &Held,
     d: &mut [u8],
     r: &[u8],
@@ -162,7 +162,7 @@ fn check_file(
 // What was found, in a file of its own, and whether all is well.
 fn found(
     rt: &HostRuntime,
-    path: &str,
+    path: &[u8],
     d: &mut [u8],
     r: &[u8],
     file: u64,
@@ -189,7 +189,7 @@ fn found(
     }
 }
 
-fn is_kept(rt: &HostRuntime, path: &str, h: &Held, before: &[u8], d: &[u8]) -> Result<(), Told> {
+fn is_kept(rt: &HostRuntime, path: &[u8], h: &Held, before: &[u8], d: &[u8]) -> Result<(), Told> {
     if text::same_bytes(before, d) {
         cli_held::release(rt, Program::Bureau, path, h);
         return Ok(());

@@ -36,7 +36,7 @@ fn ok(rt: &HostRuntime, d: &[u8]) -> io::Result<()> {
 }
 
 // Saves the desk that a served call left, and answers with the check values, which are compared by telephone.
-fn saved(rt: &HostRuntime, path: &str, d: &[u8], h: &Held) -> Result<Status, Told> {
+fn saved(rt: &HostRuntime, path: &[u8], d: &[u8], h: &Held) -> Result<Status, Told> {
     cli_held::is_saved(rt, Program::Bureau, path, d, h)?;
     status::served_if(say::is_said(
         rt,
@@ -52,10 +52,10 @@ pub fn open(rt: &HostRuntime, words: &Words) -> Result<Status, Told> {
     bureau_help::are_as_many(rt, words, 1, 14, 14)?;
     words.are_taken(rt, Program::Bureau, b"")?;
     let path = cli_names::of_kept(rt, Program::Bureau, words.word(2), b"DESK")?;
-    open_words(rt, words, path.as_str())
+    open_words(rt, words, path.as_slice())
 }
 
-fn open_words(rt: &HostRuntime, words: &Words, path: &str) -> Result<Status, Told> {
+fn open_words(rt: &HostRuntime, words: &Words, path: &[u8]) -> Result<Status, Told> {
     let p = Program::Bureau;
     let own = cli_asked::who(
         rt,
@@ -91,7 +91,7 @@ fn open_words(rt: &HostRuntime, words: &Words, path: &str) -> Result<Status, Tol
 // The limits of what was typed.
 fn open_with(
     rt: &HostRuntime,
-    path: &str,
+    path: &[u8],
     given: &desk::Given,
     maker: keys::KeyMaker,
     own: &[u8; 25],
@@ -119,7 +119,7 @@ fn refused_names(rt: &HostRuntime, own: &[u8; 25], bank: &[u8; 25]) -> Result<St
 
 fn open_new(
     rt: &HostRuntime,
-    path: &str,
+    path: &[u8],
     held: desk::Held,
     maker: keys::KeyMaker,
     software: [u8; 16],
@@ -147,10 +147,10 @@ pub fn key(rt: &HostRuntime, words: &Words) -> Result<Status, Told> {
         words.word(5),
         words.word(6),
     )?;
-    enter(rt, path.as_str(), parts)
+    enter(rt, path.as_slice(), parts)
 }
 
-fn enter(rt: &HostRuntime, path: &str, parts: desk::Parts) -> Result<Status, Told> {
+fn enter(rt: &HostRuntime, path: &[u8], parts: desk::Parts) -> Result<Status, Told> {
     let h = cli_held::take(rt, Program::Bureau, path)?;
     let mut d = [0u8; 16640];
     if let Err(told) = bureau_show::is_loaded(rt, path, &mut d) {

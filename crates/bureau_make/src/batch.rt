@@ -29,7 +29,7 @@ impl From<Told> for Stopped {
 fn put(
     rt: &HostRuntime,
     out: &mut Growing,
-    file: &str,
+    file: &[u8],
     before: u64,
     s: &[u8],
 ) -> Result<u64, Stopped> {
@@ -61,7 +61,7 @@ fn put(
 fn put_line(
     rt: &HostRuntime,
     out: &mut Growing,
-    file: &str,
+    file: &[u8],
     before: u64,
     s: &[u8],
     crlf: bool,
@@ -91,7 +91,7 @@ fn request_of(o: &Order, k: usize) -> u8 {
 fn put_esi(
     rt: &HostRuntime,
     out: &mut Growing,
-    file: &str,
+    file: &[u8],
     o: &Order,
     d: &mut [u8],
 ) -> Result<u64, Stopped> {
@@ -114,7 +114,7 @@ pub fn fill(
     rt: &HostRuntime,
     words: &Words,
     out: &mut Growing,
-    file: &str,
+    file: &[u8],
     o: &Order,
     d: &mut [u8],
 ) -> Result<u64, Stopped> {
@@ -165,7 +165,7 @@ fn put_batch(
     rt: &HostRuntime,
     words: &Words,
     out: &mut Growing,
-    file: &str,
+    file: &[u8],
     o: &Order,
     d: &mut [u8],
     before: u64,
@@ -192,7 +192,7 @@ fn put_records(
     rt: &HostRuntime,
     words: &Words,
     out: &mut Growing,
-    file: &str,
+    file: &[u8],
     o: &Order,
     d: &mut [u8],
     before: u64,
@@ -201,7 +201,7 @@ fn put_records(
 ) -> Result<u64, Stopped> {
     let word = words.word(k.wrapping_add(7));
     let path = cli_names::of(rt, Program::Bureau, word, b"RECORDS")?;
-    let path = path.as_str();
+    let path = path.as_slice();
     let mut input = cli_beside::open_told(rt, Program::Bureau, b"can't open the records", path)?;
     is_other(rt, o.desk, &input, out.file())?;
     let way = bureau_records::way_of(b.once, digested(o.skh), o.crlf);
@@ -242,7 +242,7 @@ fn is_other(rt: &HostRuntime, desk: Option<Seen>, input: &File, out: &File) -> R
 fn put_var(
     rt: &HostRuntime,
     out: &mut Growing,
-    file: &str,
+    file: &[u8],
     o: &Order,
     d: &mut [u8],
     before: u64,
@@ -272,9 +272,9 @@ struct Copied {
 fn copy(
     rt: &HostRuntime,
     input: &mut File,
-    path: &str,
+    path: &[u8],
     out: &mut Growing,
-    file: &str,
+    file: &[u8],
     before: u64,
     way: Way,
 ) -> Result<Copied, Stopped> {
@@ -307,9 +307,9 @@ struct Stand {
 fn turn(
     rt: &HostRuntime,
     input: &mut File,
-    path: &str,
+    path: &[u8],
     out: &mut Growing,
-    file: &str,
+    file: &[u8],
     before: u64,
     way: Way,
     lines: Lines,
@@ -348,9 +348,9 @@ fn turn(
 // What a part left in the room, or what is the matter with it.
 fn put_lines(
     rt: &HostRuntime,
-    path: &str,
+    path: &[u8],
     out: &mut Growing,
-    file: &str,
+    file: &[u8],
     before: u64,
     l: &Lines,
     room: &[u8],
@@ -367,7 +367,7 @@ fn put_lines(
 }
 
 // Without a character there is no digest, and the bank refuses the batch.
-fn with_characters(rt: &HostRuntime, path: &str, l: &Lines) -> Result<(), Told> {
+fn with_characters(rt: &HostRuntime, path: &[u8], l: &Lines) -> Result<(), Told> {
     if bureau_records::state_of(*l).n != 0 {
         return Ok(());
     }
@@ -381,7 +381,7 @@ fn with_characters(rt: &HostRuntime, path: &str, l: &Lines) -> Result<(), Told> 
 }
 
 // The faults are those of `bureau_records`.
-fn tell_fault(rt: &HostRuntime, path: &str, line: u64, fault: u32) {
+fn tell_fault(rt: &HostRuntime, path: &[u8], line: u64, fault: u32) {
     cli_beside::tell(rt, Program::Bureau, path, b"line ");
     let _ = eprint!(rt; "{line}");
     match fault {

@@ -46,7 +46,7 @@ pub fn make(rt: &HostRuntime, words: &Words) -> Result<Status, Told> {
     bureau_help::are_as_many(rt, words, 3, 8, 71)?;
     words.are_taken(rt, Program::Bureau, b"--ask --end --crlf --area-a ")?;
     let path = cli_names::of_kept(rt, Program::Bureau, words.word(2), b"DESK")?;
-    make_words(rt, words, path.as_str())
+    make_words(rt, words, path.as_slice())
 }
 
 // What the bank is asked for, which can't be two things at once.
@@ -85,7 +85,7 @@ fn is_skh(rt: &HostRuntime, word: &[u8]) -> Result<bool, Told> {
     Err(Told)
 }
 
-fn make_words(rt: &HostRuntime, words: &Words, path: &str) -> Result<Status, Told> {
+fn make_words(rt: &HostRuntime, words: &Words, path: &[u8]) -> Result<Status, Told> {
     let p = Program::Bureau;
     let day = cli_asked::date(rt, p, words.word(3))?;
     let time = cli_asked::digits(rt, p, words.word(4), 6, 6, b"TIME", b"six digits hhmmss")?;
@@ -106,9 +106,9 @@ fn make_words(rt: &HostRuntime, words: &Words, path: &str) -> Result<Status, Tol
     make_into(rt, words, path, &o)
 }
 
-fn make_into(rt: &HostRuntime, words: &Words, path: &str, o: &Order) -> Result<Status, Told> {
+fn make_into(rt: &HostRuntime, words: &Words, path: &[u8], o: &Order) -> Result<Status, Told> {
     let file = cli_names::of_made(rt, Program::Bureau, words.word(7), b"FILE")?;
-    make_locked(rt, words, path, file.as_str(), o)
+    make_locked(rt, words, path, file.as_slice(), o)
 }
 
 // ---- files
@@ -116,8 +116,8 @@ fn make_into(rt: &HostRuntime, words: &Words, path: &str, o: &Order) -> Result<S
 fn make_locked(
     rt: &HostRuntime,
     words: &Words,
-    path: &str,
-    file: &str,
+    path: &[u8],
+    file: &[u8],
     o: &Order,
 ) -> Result<Status, Told> {
     let h = cli_held::take(rt, Program::Bureau, path)?;
@@ -130,8 +130,8 @@ fn make_locked(
 fn under_lock(
     rt: &HostRuntime,
     words: &Words,
-    path: &str,
-    file: &str,
+    path: &[u8],
+    file: &[u8],
     h: &Held,
     o: &Order,
 ) -> Result<Done, Stopped> {
@@ -148,8 +148,8 @@ fn under_lock(
 fn make_new(
     rt: &HostRuntime,
     words: &Words,
-    path: &str,
-    file: &str,
+    path: &[u8],
+    file: &[u8],
     h: &Held,
     o: &Order,
     d: &mut [u8],
@@ -173,9 +173,9 @@ fn make_new(
 fn make_file(
     rt: &HostRuntime,
     words: &Words,
-    path: &str,
+    path: &[u8],
     kept: File,
-    file: &str,
+    file: &[u8],
     mut out: Growing,
     h: &Held,
     o: &Order,
@@ -213,7 +213,7 @@ fn fill(
     rt: &HostRuntime,
     words: &Words,
     out: &mut Growing,
-    file: &str,
+    file: &[u8],
     o: &Order,
     d: &mut [u8],
 ) -> Result<u64, Stopped> {

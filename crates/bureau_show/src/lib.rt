@@ -34,8 +34,8 @@ pub fn keys(rt: &HostRuntime, h: &desk::Held) -> io::Result<()> {
 // ---- the desk
 
 fn names(rt: &HostRuntime, h: &desk::Held, software: &[u8; 16]) -> io::Result<()> {
-    cli_shown::who(rt, b"customer    ", &h.own)?;
-    cli_shown::who(rt, b"bank        ", &h.bank)?;
+    cli_shown::who(rt, b"customer    ", &h.own, 17)?;
+    cli_shown::who(rt, b"bank        ", &h.bank, 17)?;
     say::out(rt, b"software    ")?;
     cli_shown::name(rt, software)?;
     say::out(rt, b"\n")
@@ -128,7 +128,7 @@ fn shown(rt: &HostRuntime, d: &[u8]) -> Result<Status, Told> {
 }
 
 // Loads a desk, or says what is the matter.
-pub fn is_loaded(rt: &HostRuntime, path: &str, d: &mut [u8]) -> Result<(), Told> {
+pub fn is_loaded(rt: &HostRuntime, path: &[u8], d: &mut [u8]) -> Result<(), Told> {
     cli_table::load(rt, Program::Bureau, path, d)?;
     if bureau_file::is_desk(d) {
         return Ok(());
@@ -147,6 +147,6 @@ pub fn show(rt: &HostRuntime, words: &Words) -> Result<Status, Told> {
     words.are_taken(rt, Program::Bureau, b"")?;
     let path = cli_names::of(rt, Program::Bureau, words.word(2), b"DESK")?;
     let mut d = [0u8; 16640];
-    is_loaded(rt, path.as_str(), &mut d)?;
+    is_loaded(rt, path.as_slice(), &mut d)?;
     shown(rt, &d)
 }

@@ -64,20 +64,13 @@ pub fn has_control(word: &[u8]) -> bool {
     word.iter().any(|&b| b < b' ' || b == 0x7F)
 }
 
-// A file's name as the system takes it here.
-pub fn in_utf8<'a>(
-    rt: &HostRuntime,
-    p: Program,
-    name: &[u8],
-    word: &'a [u8],
-) -> Result<&'a str, Told> {
-    match str::from_utf8(word) {
-        Ok(path) => Ok(path),
-        Err(_) => {
-            say::expected(rt, p, name, b"the name of a file, in UTF-8");
-            Err(Told)
-        }
+// Whether a word is a name that the system can be handed here: std takes names in UTF-8 alone.
+pub fn is_in_utf8(rt: &HostRuntime, p: Program, name: &[u8], word: &[u8]) -> Result<(), Told> {
+    if str::from_utf8(word).is_ok() {
+        return Ok(());
     }
+    say::expected(rt, p, name, b"the name of a file, in UTF-8");
+    Err(Told)
 }
 
 // The number that a word was, or what is expected.

@@ -90,7 +90,7 @@ fn told_of_file(
     p: Program,
     value: Block,
     file: &mut File,
-    path: &str,
+    path: &[u8],
     name: &[u8],
     what: &[u8],
 ) -> Result<u64, Told> {
@@ -106,12 +106,12 @@ fn told_of_file(
 fn from_file(
     rt: &HostRuntime,
     p: Program,
-    path: &str,
+    path: &[u8],
     width: usize,
     name: &[u8],
     what: &[u8],
 ) -> Result<u64, Told> {
-    match File::open(rt, path) {
+    match cli_files::open(rt, path) {
         Ok(mut file) => {
             let value = line_of(&mut file, width);
             told_of_file(rt, p, value, &mut file, path, name, what)
@@ -138,7 +138,7 @@ pub fn block(
     what: &[u8],
 ) -> Result<u64, Told> {
     if let Some((&b'@', path)) = word.split_first() {
-        let path = crate::in_utf8(rt, p, name, path)?;
+        crate::is_in_utf8(rt, p, name, path)?;
         return from_file(rt, p, path, width, name, what);
     }
     if word == b"-".as_slice() {

@@ -30,10 +30,10 @@ struct Fed {
 pub fn is_received<I: Read>(
     rt: &HostRuntime,
     input: &mut I,
-    file: &str,
+    file: &[u8],
     out: &mut Growing,
     explanations: &mut Option<Growing>,
-    replies: &str,
+    replies: &[u8],
     t: &mut [u8],
     s: Session,
     size: usize,
@@ -55,7 +55,7 @@ pub fn is_received<I: Read>(
 fn is_concluded(
     rt: &HostRuntime,
     explanations: &mut Option<Growing>,
-    replies: &str,
+    replies: &[u8],
     fed: &Fed,
 ) -> Result<(), Told> {
     match explanations {
@@ -72,10 +72,10 @@ fn is_concluded(
 fn pump<I: Read>(
     rt: &HostRuntime,
     input: &mut I,
-    file: &str,
+    file: &[u8],
     out: &mut Growing,
     explanations: &mut Option<Growing>,
-    replies: &str,
+    replies: &[u8],
     t: &mut [u8],
     s: Session,
     part: &mut [u8],
@@ -110,10 +110,10 @@ fn pump<I: Read>(
 fn turn<I: Read>(
     rt: &HostRuntime,
     input: &mut I,
-    file: &str,
+    file: &[u8],
     out: &mut Growing,
     explanations: &mut Option<Growing>,
-    replies: &str,
+    replies: &[u8],
     t: &mut [u8],
     s: Session,
     passed: &Passed,
@@ -163,7 +163,7 @@ fn feed(
     rt: &HostRuntime,
     out: &mut Growing,
     explanations: &mut Option<Growing>,
-    replies: &str,
+    replies: &[u8],
     t: &mut [u8],
     s: Session,
     before: &Passed,
@@ -209,7 +209,7 @@ fn step(
     rt: &HostRuntime,
     out: &mut Growing,
     explanations: &mut Option<Growing>,
-    replies: &str,
+    replies: &[u8],
     t: &mut [u8],
     s: Session,
     passed: &Passed,
@@ -227,7 +227,7 @@ fn step(
 fn plain_step(
     rt: &HostRuntime,
     out: &mut Growing,
-    replies: &str,
+    replies: &[u8],
     t: &mut [u8],
     s: Session,
     passed: &Passed,
@@ -248,7 +248,7 @@ fn plain_step(
 fn is_answered<'a>(
     rt: &HostRuntime,
     out: &mut Growing,
-    replies: &str,
+    replies: &[u8],
     a: &calls::Answer,
     room: &'a [u8],
 ) -> Result<&'a [u8], Told> {
@@ -257,7 +257,7 @@ fn is_answered<'a>(
             rt,
             Program::Lentilpot,
             replies,
-            "",
+            b"",
             b"nothing was changed: a read was refused\n",
         );
         return Err(Told);
@@ -276,7 +276,7 @@ fn explained_step(
     rt: &HostRuntime,
     out: &mut Growing,
     explanations: &mut Growing,
-    replies: &str,
+    replies: &[u8],
     t: &mut [u8],
     s: Session,
     passed: &Passed,
@@ -316,7 +316,7 @@ fn are_ended(
     rt: &HostRuntime,
     out: &mut Growing,
     explanations: &mut Option<Growing>,
-    replies: &str,
+    replies: &[u8],
     t: &mut [u8],
     last: &Fed,
 ) -> Result<(), Told> {
@@ -336,7 +336,7 @@ fn end_step(
     rt: &HostRuntime,
     out: &mut Growing,
     explanations: &mut Option<Growing>,
-    replies: &str,
+    replies: &[u8],
     t: &mut [u8],
     s: Session,
     passed: &Passed,

@@ -1,7 +1,7 @@
 // What a file is, so that a program tells files apart by device and inode and not by their names.
 #![tactic(auto)]
 
-ghost use Rattle.std.specs.Prelude.{◌≡◌, ◌≢◌, ◌↔◌, ◌≤◌, IsTrue, All, length, bit_and};
+ghost use Rattle.std.specs.Prelude.{◌≡◌, ◌≢◌, ◌↔◌, ◌≤◌, IsTrue, IsOk, IfOk, IsUtf8, All, length, bit_and};
 ghost use Rattle.std.specs.Fs.{metadata_mode};
 
 use std::fs::{File, Metadata};
@@ -29,12 +29,28 @@ pub struct Seen {
     pub group: u32,
 }
 
-// What the name is: of a link, the link itself.
-pub fn of_name(rt: &HostRuntime, path: &str) -> io::Result<Seen> {
-    if !is_path(path.as_bytes()) {
+// A name as the system is handed it here: std takes names in UTF-8 alone.
+pub fn as_path(name: &[u8]) -> io::Result<&str>
+    ensures taken { IsOk result ↔ (length name.now ≤ 4095 × All (λ b. b ≢ 0) name.now × IsUtf8 name.now) }
+    ensures same { IfOk result (λ path. path.now ≡ name.now) }
+{
+    if !is_path(name) {
         return Err(io::Error::from(io::ErrorKind::InvalidFilename));
     }
-    Ok(told(&fs::symlink_metadata(rt, path)?))
+    match str::from_utf8(name) {
+        Ok(path) => Ok(path),
+        Err(_) => Err(io::Error::from(io::ErrorKind::InvalidFilename)),
+    }
+}
+
+// Opens the file of that name to read it.
+pub fn open(rt: &HostRuntime, name: &[u8]) -> io::Result<File> {
+    File::open(rt, as_path(name)?)
+}
+
+// What the name is: of a link, the link itself.
+pub fn of_name(rt: &HostRuntime, path: &[u8]) -> io::Result<Seen> {
+    Ok(told(&fs::symlink_metadata(rt, as_path(path)?)?))
 }
 
 // What the open file is.
@@ -50,8 +66,8 @@ pub fn of_descriptor<F: AsRawFd>(rt: &HostRuntime, file: &F) -> io::Result<Seen>
 }
 
 // What a link leads to, as the link says it.
-pub fn link_text(rt: &HostRuntime, path: &str) -> io::Result<String> {
-    Ok(fs::read_link(rt, path)?.into_string())
+pub fn link_text(rt: &HostRuntime, path: &[u8]) -> io::Result<String> {
+    Ok(fs::read_link(rt, as_path(path)?)?.into_string())
 }
 
 // Whether the mode is a regular file's.
@@ -84,8 +100,7 @@ fn told(m: &Metadata) -> Seen
 
 // Whether the system can be handed all of path: it reads a name up to its first 0.
 fn is_path(path: &[u8]) -> bool
-    ensures short { IsTrue result → length path.now ≤ 4095 }
-    ensures whole { IsTrue result → All (λ b. b ≢ 0) path.now }
+    ensures { IsTrue result ↔ (length path.now ≤ 4095 × All (λ b. b ≢ 0) path.now) }
 {
     path.len() <= LONGEST && path.iter().all(|&b| b != 0)
 }

@@ -15,18 +15,24 @@ pub struct Held {
 }
 
 // Takes the table; where it can't be had, that was told.
-pub fn take(rt: &HostRuntime, p: Program, table: &str) -> Result<Held, Told> {
+pub fn take(rt: &HostRuntime, p: Program, table: &[u8]) -> Result<Held, Told> {
     let run = cli_lock::take(rt, p, table)?;
     let seen = cli_files::of_name(rt, table).ok();
     Ok(Held { run, seen })
 }
 
-pub fn release(rt: &HostRuntime, p: Program, table: &str, h: &Held) {
+pub fn release(rt: &HostRuntime, p: Program, table: &[u8], h: &Held) {
     cli_lock::release(rt, p, table, &h.run);
 }
 
 // Saves the table that a served call left, and lets it go; whether that is on the disk.
-pub fn is_saved(rt: &HostRuntime, p: Program, table: &str, t: &[u8], h: &Held) -> Result<(), Told> {
+pub fn is_saved(
+    rt: &HostRuntime,
+    p: Program,
+    table: &[u8],
+    t: &[u8],
+    h: &Held,
+) -> Result<(), Told> {
     let mut file = match cli_table::begin(rt, p, table) {
         Ok(file) => file,
         Err(told) => {

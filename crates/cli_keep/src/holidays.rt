@@ -5,7 +5,7 @@ use cli_terminal::say;
 use cli_terminal::status::Told;
 use std::fs::File;
 
-fn bad_line(rt: &HostRuntime, path: &str, line: u32) {
+fn bad_line(rt: &HostRuntime, path: &[u8], line: u32) {
     cli_beside::tell(rt, Program::Lentilpot, path, b"line ");
     let _ = eprintln!(rt; "{line} isn't a date: expected one yymmdd a line");
 }
@@ -16,10 +16,10 @@ pub fn asked(rt: &HostRuntime, words: &Words, i: usize) -> Result<cli_words::Dat
         return Ok(cli_words::holidays(b""));
     }
     let path = cli_names::of(rt, Program::Lentilpot, words.word(i), b"HOLIDAYS")?;
-    read_holidays(rt, path.as_str())
+    read_holidays(rt, path.as_slice())
 }
 
-fn read_holidays(rt: &HostRuntime, path: &str) -> Result<cli_words::Dates, Told> {
+fn read_holidays(rt: &HostRuntime, path: &[u8]) -> Result<cli_words::Dates, Told> {
     let mut file = cli_beside::open_told(
         rt,
         Program::Lentilpot,
@@ -38,7 +38,7 @@ fn read_holidays(rt: &HostRuntime, path: &str) -> Result<cli_words::Dates, Told>
 }
 
 // Whether all of the file was read.
-fn is_end(rt: &HostRuntime, path: &str, file: &mut File) -> Result<(), Told> {
+fn is_end(rt: &HostRuntime, path: &[u8], file: &mut File) -> Result<(), Told> {
     let more = cli_beside::read_over(
         rt,
         Program::Lentilpot,

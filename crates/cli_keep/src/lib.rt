@@ -13,7 +13,7 @@ use cli_terminal::status::{Status, Told};
 use table_calls::{Adding, Entering, Ordering, Setting};
 
 // Saves the table that a served call left, and answers.
-fn saved(rt: &HostRuntime, table: &str, t: &[u8], h: &Held) -> Result<Status, Told> {
+fn saved(rt: &HostRuntime, table: &[u8], t: &[u8], h: &Held) -> Result<Status, Told> {
     cli_held::is_saved(rt, Program::Lentilpot, table, t, h)?;
     say::answer(rt, Program::Lentilpot, 0)
 }
@@ -21,7 +21,7 @@ fn saved(rt: &HostRuntime, table: &str, t: &[u8], h: &Held) -> Result<Status, To
 // Answers a call on that day that was refused.
 fn refused(
     rt: &HostRuntime,
-    table: &str,
+    table: &[u8],
     t: &[u8],
     h: &Held,
     today: Date,
@@ -35,7 +35,7 @@ fn refused(
 fn loaded(
     rt: &HostRuntime,
     words: &Words,
-    table: &str,
+    table: &[u8],
     t: &mut [u8],
     today: Date,
 ) -> Result<Held, Told> {
@@ -52,7 +52,7 @@ fn loaded(
 fn load_meant(
     rt: &HostRuntime,
     words: &Words,
-    table: &str,
+    table: &[u8],
     t: &mut [u8],
     today: Date,
 ) -> Result<(), Told> {
@@ -66,10 +66,10 @@ pub fn setup(rt: &HostRuntime, words: &Words) -> Result<Status, Told> {
     cli_help::are_as_many(rt, words, 1, 9, 10)?;
     words.are_taken(rt, Program::Lentilpot, b"")?;
     let table = cli_names::of_kept(rt, Program::Lentilpot, words.word(2), b"TABLE")?;
-    setup_words(rt, words, table.as_str())
+    setup_words(rt, words, table.as_slice())
 }
 
-fn setup_words(rt: &HostRuntime, words: &Words, table: &str) -> Result<Status, Told> {
+fn setup_words(rt: &HostRuntime, words: &Words, table: &[u8]) -> Result<Status, Told> {
     let p = Program::Lentilpot;
     let bank = cli_asked::who(rt, p, words.word(3), words.word(4), b"BANK", b"QUALIFIER")?;
     let software = cli_asked::software(rt, p, words.word(5))?;
@@ -89,7 +89,7 @@ fn setup_words(rt: &HostRuntime, words: &Words, table: &str) -> Result<Status, T
 
 fn set_up(
     rt: &HostRuntime,
-    table: &str,
+    table: &[u8],
     s: &Setting,
     d: &cli_words::Dates,
 ) -> Result<Status, Told> {
@@ -103,7 +103,7 @@ fn set_up(
 
 fn set_up_held(
     rt: &HostRuntime,
-    table: &str,
+    table: &[u8],
     h: &Held,
     s: &Setting,
     d: &cli_words::Dates,
@@ -151,10 +151,10 @@ pub fn add(rt: &HostRuntime, words: &Words) -> Result<Status, Told> {
     cli_help::are_as_many(rt, words, 2, 13, 14)?;
     words.are_taken(rt, Program::Lentilpot, b"--later ")?;
     let table = cli_names::of_kept(rt, Program::Lentilpot, words.word(2), b"TABLE")?;
-    add_words(rt, words, table.as_str())
+    add_words(rt, words, table.as_slice())
 }
 
-fn add_words(rt: &HostRuntime, words: &Words, table: &str) -> Result<Status, Told> {
+fn add_words(rt: &HostRuntime, words: &Words, table: &[u8]) -> Result<Status, Told> {
     let p = Program::Lentilpot;
     let e = asked_key(rt, words)?;
     let types = cli_asked::types(rt, p, words.word(10))?;
@@ -177,7 +177,7 @@ fn add_words(rt: &HostRuntime, words: &Words, table: &str) -> Result<Status, Tol
     add_to(rt, words, table, a)
 }
 
-fn add_to(rt: &HostRuntime, words: &Words, table: &str, a: Adding) -> Result<Status, Told> {
+fn add_to(rt: &HostRuntime, words: &Words, table: &[u8], a: Adding) -> Result<Status, Told> {
     let mut t = [0u8; 49152];
     let h = loaded(rt, words, table, &mut t, a.today)?;
     let refusal = table_calls::add(&mut t, a);
@@ -224,10 +224,10 @@ pub fn key(rt: &HostRuntime, words: &Words) -> Result<Status, Told> {
     words.are_taken(rt, Program::Lentilpot, b"--later ")?;
     let table = cli_names::of_kept(rt, Program::Lentilpot, words.word(2), b"TABLE")?;
     let e = asked_key(rt, words)?;
-    enter(rt, words, table.as_str(), e)
+    enter(rt, words, table.as_slice(), e)
 }
 
-fn enter(rt: &HostRuntime, words: &Words, table: &str, e: Entering) -> Result<Status, Told> {
+fn enter(rt: &HostRuntime, words: &Words, table: &[u8], e: Entering) -> Result<Status, Told> {
     let mut t = [0u8; 49152];
     let h = loaded(rt, words, table, &mut t, e.today)?;
     let refusal = table_calls::enter(&mut t, e);
@@ -247,10 +247,10 @@ pub fn order(rt: &HostRuntime, words: &Words) -> Result<Status, Told> {
     cli_help::are_as_many(rt, words, 4, 7, 7)?;
     words.are_taken(rt, Program::Lentilpot, b"--later ")?;
     let table = cli_names::of_kept(rt, Program::Lentilpot, words.word(2), b"TABLE")?;
-    order_words(rt, words, table.as_str())
+    order_words(rt, words, table.as_slice())
 }
 
-fn order_words(rt: &HostRuntime, words: &Words, table: &str) -> Result<Status, Told> {
+fn order_words(rt: &HostRuntime, words: &Words, table: &[u8]) -> Result<Status, Told> {
     let p = Program::Lentilpot;
     let day = cli_asked::date(rt, p, words.word(3))?;
     let who = cli_asked::who(
@@ -266,7 +266,7 @@ fn order_words(rt: &HostRuntime, words: &Words, table: &str) -> Result<Status, T
     order_in(rt, words, table, Ordering { today, who, clock })
 }
 
-fn order_in(rt: &HostRuntime, words: &Words, table: &str, o: Ordering) -> Result<Status, Told> {
+fn order_in(rt: &HostRuntime, words: &Words, table: &[u8], o: Ordering) -> Result<Status, Told> {
     let mut t = [0u8; 49152];
     let h = loaded(rt, words, table, &mut t, o.today)?;
     let refusal = table_calls::order(&mut t, o);

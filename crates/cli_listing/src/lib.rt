@@ -12,7 +12,7 @@ use std::io;
 use std::io::Read;
 
 // A file for the explanations, where they are asked for.
-pub fn begin(rt: &HostRuntime, words: &Words, replies: &str) -> Result<Option<Growing>, Told> {
+pub fn begin(rt: &HostRuntime, words: &Words, replies: &[u8]) -> Result<Option<Growing>, Told> {
     if !words.is_given(b"--explain") {
         return Ok(None);
     }
@@ -35,7 +35,7 @@ fn of_counts(refused: u64) -> Status {
 }
 
 // A file without any message: what was done is said, since nothing is listed.
-fn tell_none(rt: &HostRuntime, file: &str, today: calendar::Date) {
+fn tell_none(rt: &HostRuntime, file: &[u8], today: calendar::Date) {
     let mut six = [0u8; 6];
     text::write_number(&mut six, today.yymmdd as u64);
     cli_beside::tell(
@@ -71,7 +71,7 @@ enum Next {
 fn list_replies(
     rt: &HostRuntime,
     file: &mut File,
-    replies: &str,
+    replies: &[u8],
     is_shown: bool,
 ) -> Result<Listed, Told> {
     let mut l = Listed {
@@ -96,7 +96,7 @@ fn list_replies(
     Err(Told)
 }
 
-fn tell_unread(rt: &HostRuntime, replies: &str, e: &io::Error) {
+fn tell_unread(rt: &HostRuntime, replies: &[u8], e: &io::Error) {
     say::trouble(
         rt,
         Program::Lentilpot,
@@ -106,12 +106,12 @@ fn tell_unread(rt: &HostRuntime, replies: &str, e: &io::Error) {
     );
 }
 
-fn tell_unwritten(rt: &HostRuntime, replies: &str, e: &io::Error) {
+fn tell_unwritten(rt: &HostRuntime, replies: &[u8], e: &io::Error) {
     say::of_file(
         rt,
         Program::Lentilpot,
         replies,
-        "",
+        b"",
         b"the table was saved and the replies are in this file; they can't be listed: ",
     );
     say::fail(rt, b"standard output", e);
@@ -180,7 +180,7 @@ fn read_rest(file: &mut File, kind: u8) -> io::Result<()> {
 fn is_explained(
     rt: &HostRuntime,
     explanations: Option<Growing>,
-    replies: &str,
+    replies: &[u8],
 ) -> Result<(), Told> {
     let Some(mut explanations) = explanations else {
         return Ok(());
@@ -202,8 +202,8 @@ pub fn list(
     rt: &HostRuntime,
     listed: io::Result<File>,
     explanations: Option<Growing>,
-    replies: &str,
-    file: &str,
+    replies: &[u8],
+    file: &[u8],
     today: calendar::Date,
 ) -> Result<Status, Told> {
     let l = match listed {

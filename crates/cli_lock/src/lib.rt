@@ -15,9 +15,9 @@ use std::io;
 use std::io::{ErrorKind, Write};
 
 // Takes the table; where it can't be had, who has it is told.
-pub fn take(rt: &HostRuntime, p: Program, table: &str) -> Result<Run, Told> {
+pub fn take(rt: &HostRuntime, p: Program, table: &[u8]) -> Result<Run, Told> {
     let r = cli_run::begun(rt, p)?;
-    match cli_beside::make(rt, table, ".lock") {
+    match cli_beside::make(rt, table, b".lock") {
         Ok(file) => sign(rt, p, table, file, &r)?,
         Err(e) => {
             tell_unmade(rt, p, table, &e);
@@ -28,11 +28,11 @@ pub fn take(rt: &HostRuntime, p: Program, table: &str) -> Result<Run, Told> {
 }
 
 // Says in the lock whose it is.
-fn sign(rt: &HostRuntime, p: Program, table: &str, file: File, r: &Run) -> Result<(), Told> {
+fn sign(rt: &HostRuntime, p: Program, table: &[u8], file: File, r: &Run) -> Result<(), Told> {
     let mut lock = Growing::new(rt, file);
     put_run(&mut lock, r).map_err(|e| {
-        say::trouble_beside(rt, p, b"can't write the lock", table, ".lock", &e);
-        let _ = cli_beside::remove(rt, table, ".lock");
+        say::trouble_beside(rt, p, b"can't write the lock", table, b".lock", &e);
+        let _ = cli_beside::remove(rt, table, b".lock");
         Told
     })
 }
@@ -42,7 +42,7 @@ fn put_run(lock: &mut Growing, r: &Run) -> io::Result<()> {
     lock.file().sync_all()
 }
 
-fn tell_unmade(rt: &HostRuntime, p: Program, table: &str, e: &io::Error) {
+fn tell_unmade(rt: &HostRuntime, p: Program, table: &[u8], e: &io::Error) {
     if e.kind() == ErrorKind::AlreadyExists {
         tell(rt, p, table);
         return;
@@ -52,23 +52,23 @@ fn tell_unmade(rt: &HostRuntime, p: Program, table: &str, e: &io::Error) {
         p,
         b"can't lock the $k, expected a folder that can be written",
         table,
-        ".lock",
+        b".lock",
         e,
     );
 }
 
 // Removes the lock, if it is still this run's.
-pub fn release(rt: &HostRuntime, p: Program, table: &str, r: &Run) {
+pub fn release(rt: &HostRuntime, p: Program, table: &[u8], r: &Run) {
     if !is_of(rt, table, r) {
         return;
     }
-    if let Err(e) = cli_beside::remove(rt, table, ".lock") {
-        say::trouble_beside(rt, p, b"can't remove the lock", table, ".lock", &e);
+    if let Err(e) = cli_beside::remove(rt, table, b".lock") {
+        say::trouble_beside(rt, p, b"can't remove the lock", table, b".lock", &e);
     }
 }
 
 // Whether the table is still this run's; told where it isn't.
-pub fn is_held(rt: &HostRuntime, p: Program, table: &str, r: &Run) -> Result<(), Told> {
+pub fn is_held(rt: &HostRuntime, p: Program, table: &[u8], r: &Run) -> Result<(), Told> {
     if is_of(rt, table, r) {
         return Ok(());
     }
@@ -82,32 +82,37 @@ pub fn is_held(rt: &HostRuntime, p: Program, table: &str, r: &Run) -> Result<(),
 }
 
 // Names the replies in the lock: from here on a missing TABLE.new says that the table was saved.
-pub fn name_replies(rt: &HostRuntime, table: &str, replies: &str) -> io::Result<()> {
-    let path = cli_beside::beside(rt, table, ".lock")?;
-    let file = OpenOptions::new().append(true).open(rt, path)?;
+pub fn name_replies(rt: &HostRuntime, table: &[u8], replies: &[u8]) -> io::Result<()> {
+    let path = cli_beside::beside(rt, table, b".lock")?;
+    let file = OpenOptions::new()
+        .append(true)
+        .open(rt, cli_files::as_path(&path)?)?;
     let mut lock = Growing::at_end(rt, file)?;
     put_line(&mut lock, replies)
 }
 
-fn put_line(lock: &mut Growing, replies: &str) -> io::Result<()> {
-    lock.write_all(replies.as_bytes())?;
+fn put_line(lock: &mut Growing, replies: &[u8]) -> io::Result<()> {
+    lock.write_all(replies)?;
     lock.write_all(b"\n")?;
     lock.file().sync_all()
 }
 
 // Cuts the replies' name off again, in one step, which has to reach the disk before TABLE.new goes.
-pub fn is_unnamed(rt: &HostRuntime, table: &str) -> io::Result<()> {
-    let path = cli_beside::beside(rt, table, ".lock")?;
-    let file = OpenOptions::new().read(true).write(true).open(rt, path)?;
+pub fn is_unnamed(rt: &HostRuntime, table: &[u8]) -> io::Result<()> {
+    let path = cli_beside::beside(rt, table, b".lock")?;
+    let file = OpenOptions::new()
+        .read(true)
+        .write(true)
+        .open(rt, cli_files::as_path(&path)?)?;
     file.set_len(28)?;
     file.sync_all()
 }
 
 // ---- a lock that is there
 
-fn tell(rt: &HostRuntime, p: Program, table: &str) {
+fn tell(rt: &HostRuntime, p: Program, table: &[u8]) {
     let mut lock = [0u8; 65536];
-    let n = cli_beside::read_beside(rt, table, ".lock", &mut lock);
+    let n = cli_beside::read_beside(rt, table, b".lock", &mut lock);
     let Some(r) = cli_run::read(&lock[..n]) else {
         tell_unsigned(rt, p, table);
         return;
@@ -116,7 +121,7 @@ fn tell(rt: &HostRuntime, p: Program, table: &str) {
         tell_living(rt, p, table, &r);
         return;
     }
-    say::of_file(rt, p, table, ".lock", b"left by ");
+    say::of_file(rt, p, table, b".lock", b"left by ");
     cli_run::tell(rt, &r);
     say::err(rt, b", which runs no more and ");
     match name_of(cli_run::name(&lock[..n])) {
@@ -130,45 +135,45 @@ fn tell(rt: &HostRuntime, p: Program, table: &str) {
 }
 
 // A name that can be told in one line.
-fn name_of(bytes: &[u8]) -> Option<&str> {
+fn name_of(bytes: &[u8]) -> Option<&[u8]> {
     if cli_asked::has_control(bytes) {
         return None;
     }
-    str::from_utf8(bytes).ok()
+    Some(bytes)
 }
 
 // Whether the lock of a table is of that run.
-pub fn is_of(rt: &HostRuntime, table: &str, r: &Run) -> bool {
+pub fn is_of(rt: &HostRuntime, table: &[u8], r: &Run) -> bool {
     let mut lock = [0u8; 65536];
-    let n = cli_beside::read_beside(rt, table, ".lock", &mut lock);
+    let n = cli_beside::read_beside(rt, table, b".lock", &mut lock);
     cli_run::read(&lock[..n]) == Some(*r)
 }
 
 // The lock's own name ends what is to be typed.
-fn end_at_lock(rt: &HostRuntime, table: &str) {
-    say::quoted(rt, table.as_bytes(), b".lock");
+fn end_at_lock(rt: &HostRuntime, table: &[u8]) {
+    say::quoted(rt, table, b".lock");
     say::end_line(rt);
 }
 
 // A lock that no run of this program has signed.
-fn tell_unsigned(rt: &HostRuntime, p: Program, table: &str) {
-    if let Err(e) = cli_beside::is_readable(rt, table, ".lock") {
+fn tell_unsigned(rt: &HostRuntime, p: Program, table: &[u8]) {
+    if let Err(e) = cli_beside::is_readable(rt, table, b".lock") {
         say::trouble_beside(
             rt,
             p,
             b"the $k is in use, and nothing was changed: can't read the lock",
             table,
-            ".lock",
+            b".lock",
             &e,
         );
         return;
     }
-    if !cli_beside::is_empty(rt, table, ".lock") {
+    if !cli_beside::is_empty(rt, table, b".lock") {
         say::of_file(
             rt,
             p,
             table,
-            ".lock",
+            b".lock",
             b"the $k is in use, by a lock that this program did not write, and nothing was changed; whoever wrote it knows its mend\n",
         );
         return;
@@ -182,7 +187,7 @@ fn tell_unsigned(rt: &HostRuntime, p: Program, table: &str) {
     end_at_lock(rt, table);
 }
 
-fn tell_living(rt: &HostRuntime, p: Program, table: &str, r: &Run) {
+fn tell_living(rt: &HostRuntime, p: Program, table: &[u8], r: &Run) {
     cli_beside::tell(rt, p, table, b"the $k is in use by ");
     cli_run::tell(rt, r);
     say::err(
@@ -192,8 +197,8 @@ fn tell_living(rt: &HostRuntime, p: Program, table: &str, r: &Run) {
 }
 
 // What is the case with the table after a run that was cut off, and what to type.
-pub fn tell_mend(rt: &HostRuntime, p: Program, table: &str, replies: &str, r: &Run) {
-    if cli_beside::is_there(rt, table, ".new") {
+pub fn tell_mend(rt: &HostRuntime, p: Program, table: &[u8], replies: &[u8], r: &Run) {
+    if cli_beside::is_there(rt, table, b".new") {
         // TABLE.new goes last: without it the lock would say that the table was saved
         tell_unchanged(rt, p, table, replies, r);
         return;
@@ -206,25 +211,25 @@ pub fn tell_mend(rt: &HostRuntime, p: Program, table: &str, replies: &str, r: &R
     end_at_lock(rt, table);
 }
 
-fn tell_unchanged(rt: &HostRuntime, p: Program, table: &str, replies: &str, r: &Run) {
+fn tell_unchanged(rt: &HostRuntime, p: Program, table: &[u8], replies: &[u8], r: &Run) {
     say::told(rt, p, b"did not change the $k. To mend: ");
     if underway::is_of(rt, replies, r) {
         say::err(rt, b"rm -f");
-        say::quoted(rt, replies.as_bytes(), b".new");
-        say::quoted(rt, replies.as_bytes(), b".run");
+        say::quoted(rt, replies, b".new");
+        say::quoted(rt, replies, b".run");
         say::err(rt, b" && ");
     }
     say::err(rt, b"rm");
-    say::quoted(rt, table.as_bytes(), b".lock");
+    say::quoted(rt, table, b".lock");
     say::err(rt, b" && rm");
-    say::quoted(rt, table.as_bytes(), b".new");
+    say::quoted(rt, table, b".new");
     say::end_line(rt);
 }
 
-fn tell_saved(rt: &HostRuntime, p: Program, replies: &str, r: &Run) {
-    if !underway::is_of(rt, replies, r) && !cli_beside::is_there(rt, replies, "") {
+fn tell_saved(rt: &HostRuntime, p: Program, replies: &[u8], r: &Run) {
+    if !underway::is_of(rt, replies, r) && !cli_beside::is_there(rt, replies, b"") {
         say::told(rt, p, b"saved the $k; its $w are no longer in");
-        say::quoted(rt, replies.as_bytes(), b"");
+        say::quoted(rt, replies, b"");
         say::err(
             rt,
             b", nor said to be under way: look for them. To mend: rm",
@@ -233,15 +238,15 @@ fn tell_saved(rt: &HostRuntime, p: Program, replies: &str, r: &Run) {
     }
     if !underway::is_of(rt, replies, r) {
         say::told(rt, p, b"saved the $k; its $w are in");
-        say::quoted(rt, replies.as_bytes(), b"");
+        say::quoted(rt, replies, b"");
         say::err(rt, b". To mend: rm");
         return;
     }
-    if !cli_beside::is_there(rt, replies, ".new") {
+    if !cli_beside::is_there(rt, replies, b".new") {
         say::told(rt, p, b"saved the $k; its $w are in");
-        say::quoted(rt, replies.as_bytes(), b"");
+        say::quoted(rt, replies, b"");
         say::err(rt, b". To mend: rm");
-        say::quoted(rt, replies.as_bytes(), b".run");
+        say::quoted(rt, replies, b".run");
         return;
     }
     say::told(rt, p, b"saved the $k; its $w stand");

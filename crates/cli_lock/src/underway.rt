@@ -10,19 +10,19 @@ use std::io;
 use std::io::{ErrorKind, Write};
 
 // Whether the replies under way are of that run.
-pub fn is_of(rt: &HostRuntime, replies: &str, r: &Run) -> bool {
+pub fn is_of(rt: &HostRuntime, replies: &[u8], r: &Run) -> bool {
     if replies.is_empty() {
         return false;
     }
     let mut file = [0u8; 65536];
-    let n = cli_beside::read_beside(rt, replies, ".run", &mut file);
+    let n = cli_beside::read_beside(rt, replies, b".run", &mut file);
     cli_run::read(&file[..n]) == Some(*r)
 }
 
-fn is_written(rt: &HostRuntime, file: File, table: &str, r: &Run) -> io::Result<()> {
+fn is_written(rt: &HostRuntime, file: File, table: &[u8], r: &Run) -> io::Result<()> {
     let mut file = Growing::new(rt, file);
     file.write_all(&cli_run::line(r))?;
-    file.write_all(table.as_bytes())?;
+    file.write_all(table)?;
     file.write_all(b"\n")?;
     file.file().sync_all()
 }
@@ -31,11 +31,11 @@ fn is_written(rt: &HostRuntime, file: File, table: &str, r: &Run) -> io::Result<
 pub fn begin(
     rt: &HostRuntime,
     p: Program,
-    replies: &str,
-    table: &str,
+    replies: &[u8],
+    table: &[u8],
     r: &Run,
 ) -> Result<(), Told> {
-    let file = match cli_beside::make(rt, replies, ".run") {
+    let file = match cli_beside::make(rt, replies, b".run") {
         Ok(file) => file,
         Err(e) => {
             tell_unmade(rt, p, replies, &e);
@@ -48,33 +48,33 @@ pub fn begin(
             p,
             b"nothing was changed: can't write who makes the $w",
             replies,
-            ".run",
+            b".run",
             &e,
         );
-        let _ = cli_beside::remove(rt, replies, ".run");
+        let _ = cli_beside::remove(rt, replies, b".run");
         let _ = cli_beside::flush_folder(rt, replies);
         Told
     })
 }
 
 // Gives the replies' name up, if it is still this run's; on the disk too before the lock says less than it did.
-pub fn end(rt: &HostRuntime, p: Program, replies: &str, r: &Run) {
+pub fn end(rt: &HostRuntime, p: Program, replies: &[u8], r: &Run) {
     if !is_of(rt, replies, r) {
         return;
     }
-    if let Err(e) = cli_beside::remove(rt, replies, ".run") {
-        say::trouble_beside(rt, p, b"can't remove", replies, ".run", &e);
+    if let Err(e) = cli_beside::remove(rt, replies, b".run") {
+        say::trouble_beside(rt, p, b"can't remove", replies, b".run", &e);
     }
     let _ = cli_beside::flush_folder(rt, replies);
 }
 
-fn tell_unmade(rt: &HostRuntime, p: Program, replies: &str, e: &io::Error) {
+fn tell_unmade(rt: &HostRuntime, p: Program, replies: &[u8], e: &io::Error) {
     if e.kind() != ErrorKind::AlreadyExists {
-        say::trouble_beside(rt, p, b"can't make the $w", replies, ".run", e);
+        say::trouble_beside(rt, p, b"can't make the $w", replies, b".run", e);
         return;
     }
     let mut file = [0u8; 65536];
-    let n = cli_beside::read_beside(rt, replies, ".run", &mut file);
+    let n = cli_beside::read_beside(rt, replies, b".run", &mut file);
     let table = crate::name_of(cli_run::name(&file[..n]));
     match (cli_run::read(&file[..n]), table) {
         (Some(r), Some(table)) => tell_other(rt, p, replies, table, &r),
@@ -82,24 +82,24 @@ fn tell_unmade(rt: &HostRuntime, p: Program, replies: &str, e: &io::Error) {
     }
 }
 
-fn tell_unsigned(rt: &HostRuntime, p: Program, replies: &str) {
-    if let Err(e) = cli_beside::is_readable(rt, replies, ".run") {
+fn tell_unsigned(rt: &HostRuntime, p: Program, replies: &[u8]) {
+    if let Err(e) = cli_beside::is_readable(rt, replies, b".run") {
         say::trouble_beside(
             rt,
             p,
             b"nothing was changed: $w of that name are under way, and it can't be read whose",
             replies,
-            ".run",
+            b".run",
             &e,
         );
         return;
     }
-    if !cli_beside::is_empty(rt, replies, ".run") {
+    if !cli_beside::is_empty(rt, replies, b".run") {
         say::of_file(
             rt,
             p,
             replies,
-            ".run",
+            b".run",
             b"there is a file already, which this program did not write; nothing was changed: choose another name for $W\n",
         );
         return;
@@ -108,19 +108,19 @@ fn tell_unsigned(rt: &HostRuntime, p: Program, replies: &str) {
         rt,
         p,
         replies,
-        ".run",
+        b".run",
         b"of a run that has just begun, and nothing was changed; if no $p runs, that run did nothing. To mend: rm",
     );
-    say::quoted(rt, replies.as_bytes(), b".run");
+    say::quoted(rt, replies, b".run");
     say::end_line(rt);
 }
 
 // Replies of a run that is known: it lives, or its table's lock tells what is the case, or that lock is gone.
-fn tell_other(rt: &HostRuntime, p: Program, replies: &str, table: &str, r: &Run) {
-    say::of_file(rt, p, replies, ".run", b"nothing was changed: ");
+fn tell_other(rt: &HostRuntime, p: Program, replies: &[u8], table: &[u8], r: &Run) {
+    say::of_file(rt, p, replies, b".run", b"nothing was changed: ");
     cli_run::tell(rt, r);
     say::told(rt, p, b", a run on the $k");
-    say::quoted(rt, table.as_bytes(), b"");
+    say::quoted(rt, table, b"");
     if cli_run::is_living(rt, r) {
         say::told(
             rt,
@@ -137,31 +137,31 @@ fn tell_other(rt: &HostRuntime, p: Program, replies: &str, table: &str, r: &Run)
     tell_unsure(rt, p, replies, r);
 }
 
-fn tell_unsure(rt: &HostRuntime, p: Program, replies: &str, r: &Run) {
+fn tell_unsure(rt: &HostRuntime, p: Program, replies: &[u8], r: &Run) {
     say::told(
         rt,
         p,
         b"its lock was removed, so whether that $k was saved can't be told",
     );
-    if cli_beside::is_there(rt, replies, ".new") {
+    if cli_beside::is_there(rt, replies, b".new") {
         say::told(rt, p, b"; send none of these $w unless 'show' $s");
         tell_aside(rt, replies, r);
     } else {
         say::err(rt, b". To mend: rm");
-        say::quoted(rt, replies.as_bytes(), b".run");
+        say::quoted(rt, replies, b".run");
     }
     say::end_line(rt);
 }
 
 // What to type so that the replies of a saved table get their name, or a free one where another file has it by now. An empty one is the
 // run's own, made just before it was cut off.
-pub fn tell_move(rt: &HostRuntime, replies: &str, r: &Run) {
-    if cli_beside::is_empty(rt, replies, "") {
+pub fn tell_move(rt: &HostRuntime, replies: &[u8], r: &Run) {
+    if cli_beside::is_empty(rt, replies, b"") {
         say::err(rt, b". To mend: mv");
         tell_moved(rt, replies, b"");
         return;
     }
-    if cli_beside::is_there(rt, replies, "") {
+    if cli_beside::is_there(rt, replies, b"") {
         say::err(rt, b", and another file has their name by now");
         tell_aside(rt, replies, r);
         return;
@@ -169,21 +169,21 @@ pub fn tell_move(rt: &HostRuntime, replies: &str, r: &Run) {
     tell_free(rt, replies, b"");
 }
 
-fn tell_aside(rt: &HostRuntime, replies: &str, r: &Run) {
+fn tell_aside(rt: &HostRuntime, replies: &[u8], r: &Run) {
     tell_free(rt, replies, &cli_run::ending(r));
 }
 
 // `mv -n` alone would say that all went well where it did nothing.
-fn tell_free(rt: &HostRuntime, replies: &str, ending: &[u8]) {
+fn tell_free(rt: &HostRuntime, replies: &[u8], ending: &[u8]) {
     say::err(rt, b". To mend: test ! -e");
-    say::quoted(rt, replies.as_bytes(), ending);
+    say::quoted(rt, replies, ending);
     say::err(rt, b" && mv -n");
     tell_moved(rt, replies, ending);
 }
 
-fn tell_moved(rt: &HostRuntime, replies: &str, ending: &[u8]) {
-    say::quoted(rt, replies.as_bytes(), b".new");
-    say::quoted(rt, replies.as_bytes(), ending);
+fn tell_moved(rt: &HostRuntime, replies: &[u8], ending: &[u8]) {
+    say::quoted(rt, replies, b".new");
+    say::quoted(rt, replies, ending);
     say::err(rt, b" && rm");
-    say::quoted(rt, replies.as_bytes(), b".run");
+    say::quoted(rt, replies, b".run");
 }

@@ -4,15 +4,16 @@
 use cli_terminal::program::Program;
 use cli_terminal::say;
 use cli_terminal::status::Told;
+use std::io;
 
 // The folder that the program runs in, and a slash.
-fn here(rt: &HostRuntime) -> Option<String> {
-    let folder = cli_files::link_text(rt, "/proc/self/cwd").ok()?;
-    cli_beside::beside(rt, folder.as_str(), "/").ok()
+fn here(rt: &HostRuntime) -> Option<Vec<u8>> {
+    let folder = cli_files::link_text(rt, b"/proc/self/cwd").ok()?;
+    cli_beside::beside(rt, folder.as_bytes(), b"/").ok()
 }
 
-fn is_whole(word: &str) -> bool {
-    word.starts_with('/')
+fn is_whole(word: &[u8]) -> bool {
+    word.starts_with(b"/")
 }
 
 // A name that there is room for.
@@ -20,18 +21,18 @@ fn made(
     rt: &HostRuntime,
     p: Program,
     label: &[u8],
-    name: &str,
-    ending: &str,
-) -> Result<String, Told> {
+    name: &[u8],
+    ending: &[u8],
+) -> Result<Vec<u8>, Told> {
     cli_beside::beside(rt, name, ending).map_err(|e| {
         say::begin_line(rt, p);
-        say::fail(rt, label, &e);
+        say::fail(rt, label, &io::Error::from(e));
         Told
     })
 }
 
 // A name below the folder that the program runs in, or what is the matter.
-fn below_here(rt: &HostRuntime, p: Program, label: &[u8], word: &str) -> Result<String, Told> {
+fn below_here(rt: &HostRuntime, p: Program, label: &[u8], word: &[u8]) -> Result<Vec<u8>, Told> {
     let Some(folder) = here(rt) else {
         say::expected(
             rt,
@@ -41,29 +42,29 @@ fn below_here(rt: &HostRuntime, p: Program, label: &[u8], word: &str) -> Result<
         );
         return Err(Told);
     };
-    made(rt, p, label, folder.as_str(), word)
+    made(rt, p, label, &folder, word)
 }
 
 // The whole name that a word gives, or what is the matter.
-fn of_word(rt: &HostRuntime, p: Program, label: &[u8], word: &[u8]) -> Result<String, Told> {
+fn of_word(rt: &HostRuntime, p: Program, label: &[u8], word: &[u8]) -> Result<Vec<u8>, Told> {
     cli_asked::is_file(rt, p, label, word)?;
-    let word = cli_asked::in_utf8(rt, p, label, word)?;
+    cli_asked::is_in_utf8(rt, p, label, word)?;
     if is_whole(word) {
-        return made(rt, p, label, word, "");
+        return made(rt, p, label, word, b"");
     }
     below_here(rt, p, label, word)
 }
 
 // A word as a file's whole name, or what is the matter.
-pub fn of(rt: &HostRuntime, p: Program, word: &[u8], label: &[u8]) -> Result<String, Told> {
+pub fn of(rt: &HostRuntime, p: Program, word: &[u8], label: &[u8]) -> Result<Vec<u8>, Told> {
     let name = of_word(rt, p, label, word)?;
-    cli_asked::is_file(rt, p, label, name.as_bytes())?;
+    cli_asked::is_file(rt, p, label, &name)?;
     Ok(name)
 }
 
 // How many bytes of a name are past its folder.
-fn own_length(name: &str) -> usize {
-    match name.rfind('/') {
+fn own_length(name: &[u8]) -> usize {
+    match name.iter().rposition(|&b| b == b'/') {
         Some(at) => name[at..].len() - 1,
         None => name.len(),
     }
@@ -74,7 +75,7 @@ fn is_short(
     rt: &HostRuntime,
     p: Program,
     label: &[u8],
-    name: &str,
+    name: &[u8],
     most: usize,
     what: &[u8],
 ) -> Result<(), Told> {
@@ -86,13 +87,13 @@ fn is_short(
 }
 
 // A word as the name of a table or a desk, which gets endings of up to 11 bytes.
-pub fn of_kept(rt: &HostRuntime, p: Program, word: &[u8], label: &[u8]) -> Result<String, Told> {
+pub fn of_kept(rt: &HostRuntime, p: Program, word: &[u8], label: &[u8]) -> Result<Vec<u8>, Told> {
     let name = of(rt, p, word, label)?;
     is_short(
         rt,
         p,
         label,
-        name.as_str(),
+        &name,
         244,
         b"the name of a file, of at most 244 bytes past its folder",
     )?;
@@ -100,13 +101,13 @@ pub fn of_kept(rt: &HostRuntime, p: Program, word: &[u8], label: &[u8]) -> Resul
 }
 
 // A word as the name of replies or messages to make, which get endings of up to 17 bytes.
-pub fn of_made(rt: &HostRuntime, p: Program, word: &[u8], label: &[u8]) -> Result<String, Told> {
+pub fn of_made(rt: &HostRuntime, p: Program, word: &[u8], label: &[u8]) -> Result<Vec<u8>, Told> {
     let name = of(rt, p, word, label)?;
     is_short(
         rt,
         p,
         label,
-        name.as_str(),
+        &name,
         238,
         b"the name of a file, of at most 238 bytes past its folder",
     )?;
@@ -114,9 +115,9 @@ pub fn of_made(rt: &HostRuntime, p: Program, word: &[u8], label: &[u8]) -> Resul
 }
 
 // The same of the file to receive, of which `-` is standard input.
-pub fn of_input(rt: &HostRuntime, p: Program, word: &[u8]) -> Result<String, Told> {
+pub fn of_input(rt: &HostRuntime, p: Program, word: &[u8]) -> Result<Vec<u8>, Told> {
     if word == b"-".as_slice() {
-        return made(rt, p, b"FILE", "-", "");
+        return made(rt, p, b"FILE", b"-", b"");
     }
     of(rt, p, word, b"FILE")
 }

@@ -14,7 +14,7 @@ fn of_count(count: Count) -> Status {
 }
 
 // Why the replies were not told whole.
-fn tell(rt: &HostRuntime, path: &str, why: Untold) {
+fn tell(rt: &HostRuntime, path: &[u8], why: Untold) {
     match why {
         Untold::NotReplies => cli_beside::tell(
             rt,
@@ -36,7 +36,7 @@ fn tell(rt: &HostRuntime, path: &str, why: Untold) {
     }
 }
 
-fn explained(rt: &HostRuntime, path: &str, input: &mut File) -> Result<Status, Told> {
+fn explained(rt: &HostRuntime, path: &[u8], input: &mut File) -> Result<Status, Told> {
     match cli_explain::replies(input, &mut rt.stdout()) {
         Ok(count) => Ok(of_count(count)),
         Err(why) => {
@@ -54,7 +54,7 @@ pub fn explain(rt: &HostRuntime, words: &Words) -> Result<Status, Told> {
         rt,
         Program::Lentilpot,
         b"can't open the replies",
-        path.as_str(),
+        path.as_slice(),
     )?;
-    explained(rt, path.as_str(), &mut input)
+    explained(rt, path.as_slice(), &mut input)
 }

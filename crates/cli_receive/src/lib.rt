@@ -36,10 +36,10 @@ pub fn receive(rt: &HostRuntime, words: &Words) -> Result<Status, Told> {
     cli_help::are_as_many(rt, words, 5, 9, 10)?;
     words.are_taken(rt, Program::Lentilpot, b"--later --explain ")?;
     let table = cli_names::of_kept(rt, Program::Lentilpot, words.word(2), b"TABLE")?;
-    receive_words(rt, words, table.as_str())
+    receive_words(rt, words, table.as_slice())
 }
 
-fn receive_words(rt: &HostRuntime, words: &Words, table: &str) -> Result<Status, Told> {
+fn receive_words(rt: &HostRuntime, words: &Words, table: &[u8]) -> Result<Status, Told> {
     let p = Program::Lentilpot;
     let day = cli_asked::date(rt, p, words.word(3))?;
     let time = cli_asked::digits(rt, p, words.word(4), 6, 6, b"TIME", b"six digits hhmmss")?;
@@ -68,13 +68,21 @@ fn read_size(rt: &HostRuntime, words: &Words, i: usize) -> Result<usize, Told> {
 fn receive_into(
     rt: &HostRuntime,
     words: &Words,
-    table: &str,
+    table: &[u8],
     o: Opening,
     size: usize,
 ) -> Result<Status, Told> {
     let file = cli_names::of_input(rt, Program::Lentilpot, words.word(7))?;
     let replies = cli_names::of_made(rt, Program::Lentilpot, words.word(8), b"REPLIES")?;
-    receive_file(rt, words, table, file.as_str(), replies.as_str(), o, size)
+    receive_file(
+        rt,
+        words,
+        table,
+        file.as_slice(),
+        replies.as_slice(),
+        o,
+        size,
+    )
 }
 
 // ---- files
@@ -83,9 +91,9 @@ fn receive_into(
 fn receive_file(
     rt: &HostRuntime,
     words: &Words,
-    table: &str,
-    file: &str,
-    replies: &str,
+    table: &[u8],
+    file: &[u8],
+    replies: &[u8],
     o: Opening,
     size: usize,
 ) -> Result<Status, Told> {
@@ -107,11 +115,11 @@ fn receive_file(
 fn receive_open<I: Read>(
     rt: &HostRuntime,
     words: &Words,
-    table: &str,
+    table: &[u8],
     input: &mut I,
     given: Option<Seen>,
-    file: &str,
-    replies: &str,
+    file: &[u8],
+    replies: &[u8],
     o: Opening,
     size: usize,
 ) -> Result<Status, Told> {
@@ -125,8 +133,8 @@ fn receive_open<I: Read>(
 fn answered(
     rt: &HostRuntime,
     done: Done,
-    replies: &str,
-    file: &str,
+    replies: &[u8],
+    file: &[u8],
     o: Opening,
 ) -> Result<Status, Told> {
     match done {
@@ -156,11 +164,11 @@ fn are_same(a: Option<Seen>, b: Option<Seen>) -> bool {
 fn under_lock<I: Read>(
     rt: &HostRuntime,
     words: &Words,
-    table: &str,
+    table: &[u8],
     input: &mut I,
     given: Option<Seen>,
-    file: &str,
-    replies: &str,
+    file: &[u8],
+    replies: &[u8],
     r: &Run,
     o: Opening,
     size: usize,
@@ -189,11 +197,11 @@ fn under_lock<I: Read>(
 fn make_table<I: Read>(
     rt: &HostRuntime,
     words: &Words,
-    table: &str,
+    table: &[u8],
     seen: Option<Seen>,
     input: &mut I,
-    file: &str,
-    replies: &str,
+    file: &[u8],
+    replies: &[u8],
     r: &Run,
     t: &mut [u8],
     s: Session,
@@ -220,12 +228,12 @@ fn make_table<I: Read>(
 fn make_replies<I: Read>(
     rt: &HostRuntime,
     words: &Words,
-    table: &str,
+    table: &[u8],
     kept: File,
     seen: Option<Seen>,
     input: &mut I,
-    file: &str,
-    replies: &str,
+    file: &[u8],
+    replies: &[u8],
     mut out: Growing,
     r: &Run,
     t: &mut [u8],
@@ -241,7 +249,7 @@ fn make_replies<I: Read>(
         }
     };
     // opened while the name is surely this run's, and listed once all is done
-    let listed = cli_beside::open_beside(rt, replies, ".new");
+    let listed = cli_beside::open_beside(rt, replies, b".new");
     cli_replies::is_finished(
         rt,
         Program::Lentilpot,
@@ -264,9 +272,9 @@ fn fill<I: Read>(
     rt: &HostRuntime,
     words: &Words,
     input: &mut I,
-    file: &str,
+    file: &[u8],
     out: &mut Growing,
-    replies: &str,
+    replies: &[u8],
     t: &mut [u8],
     s: Session,
     size: usize,

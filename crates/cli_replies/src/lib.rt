@@ -15,7 +15,7 @@ use std::io;
 use std::io::{ErrorKind, Write};
 
 // Whether nothing has the replies' name. The lock and TABLE.new are there by now, so their names are taken too.
-pub fn is_free(rt: &HostRuntime, p: Program, replies: &str) -> Result<(), Told> {
+pub fn is_free(rt: &HostRuntime, p: Program, replies: &[u8]) -> Result<(), Told> {
     if let Err(e) = cli_files::of_name(rt, replies) {
         return cli_beside::is_missing(
             rt,
@@ -38,8 +38,8 @@ pub fn is_free(rt: &HostRuntime, p: Program, replies: &str) -> Result<(), Told> 
 pub fn begin(
     rt: &HostRuntime,
     p: Program,
-    replies: &str,
-    table: &str,
+    replies: &[u8],
+    table: &[u8],
     r: &Run,
 ) -> Result<Growing, Told> {
     if let Err(e) = cli_lock::name_replies(rt, table, replies) {
@@ -48,13 +48,13 @@ pub fn begin(
             p,
             b"nothing was changed: can't write the lock",
             table,
-            ".lock",
+            b".lock",
             &e,
         );
         return Err(Told);
     }
     underway::begin(rt, p, replies, table, r)?;
-    match cli_beside::make(rt, replies, ".new") {
+    match cli_beside::make(rt, replies, b".new") {
         Ok(file) => Ok(Growing::new(rt, file)),
         Err(e) => {
             tell_unmade(rt, p, replies, &e);
@@ -64,7 +64,7 @@ pub fn begin(
     }
 }
 
-fn tell_unmade(rt: &HostRuntime, p: Program, replies: &str, e: &io::Error) {
+fn tell_unmade(rt: &HostRuntime, p: Program, replies: &[u8], e: &io::Error) {
     if e.kind() != ErrorKind::AlreadyExists {
         cli_beside::trouble_new(rt, p, b"nothing was changed: can't make the $w", replies, e);
         return;
@@ -73,22 +73,22 @@ fn tell_unmade(rt: &HostRuntime, p: Program, replies: &str, e: &io::Error) {
         rt,
         p,
         replies,
-        ".new",
+        b".new",
         b"there is a file already, which no run says is its own; nothing was changed: choose another name for $W\n",
     );
 }
 
 // Removes what was made of the replies, if it is still this run's, wherever their folder is by now.
-pub fn remove(rt: &HostRuntime, p: Program, replies: &str, out: &File, r: &Run) {
+pub fn remove(rt: &HostRuntime, p: Program, replies: &[u8], out: &File, r: &Run) {
     match cli_beside::named_now(rt, out, replies) {
-        Ok(now) => remove_named(rt, p, now.as_str(), out, r),
+        Ok(now) => remove_named(rt, p, now.as_slice(), out, r),
         Err(_) => remove_named(rt, p, replies, out, r),
     }
 }
 
 // Who makes them is told until the last. Each step is on the disk before the next, since the replies may be on another disk than the table.
-fn remove_named(rt: &HostRuntime, p: Program, replies: &str, out: &File, r: &Run) {
-    if cli_beside::is_ours(rt, replies, ".new", out) {
+fn remove_named(rt: &HostRuntime, p: Program, replies: &[u8], out: &File, r: &Run) {
+    if cli_beside::is_ours(rt, replies, b".new", out) {
         cli_beside::remove_new(rt, replies);
         let _ = cli_beside::flush_folder(rt, replies);
     }
@@ -96,15 +96,15 @@ fn remove_named(rt: &HostRuntime, p: Program, replies: &str, out: &File, r: &Run
 }
 
 // Nothing was changed: what there is of the new table goes, wherever its folder is by now, and the lock with it.
-pub fn undo(rt: &HostRuntime, p: Program, table: &str, kept: File, r: &Run) {
+pub fn undo(rt: &HostRuntime, p: Program, table: &[u8], kept: File, r: &Run) {
     match cli_beside::named_now(rt, &kept, table) {
-        Ok(now) => undo_named(rt, p, now.as_str(), kept, r),
+        Ok(now) => undo_named(rt, p, now.as_slice(), kept, r),
         Err(_) => undo_named(rt, p, table, kept, r),
     }
 }
 
 // The replies' name leaves the lock before TABLE.new goes. Where it can't, TABLE.new stays and says that the table was not changed.
-fn undo_named(rt: &HostRuntime, p: Program, table: &str, kept: File, r: &Run) {
+fn undo_named(rt: &HostRuntime, p: Program, table: &[u8], kept: File, r: &Run) {
     if cli_lock::is_of(rt, table, r) && cli_lock::is_unnamed(rt, table).is_err() {
         return;
     }
@@ -116,20 +116,20 @@ fn undo_named(rt: &HostRuntime, p: Program, table: &str, kept: File, r: &Run) {
 fn is_ready(
     rt: &HostRuntime,
     p: Program,
-    table: &str,
-    replies: &str,
+    table: &[u8],
+    replies: &[u8],
     out: &File,
     r: &Run,
 ) -> Result<(), Told> {
     cli_lock::is_held(rt, p, table, r)?;
-    if cli_beside::is_ours(rt, replies, ".new", out) && underway::is_of(rt, replies, r) {
+    if cli_beside::is_ours(rt, replies, b".new", out) && underway::is_of(rt, replies, r) {
         return Ok(());
     }
     say::of_file(
         rt,
         p,
         replies,
-        ".new",
+        b".new",
         b"nothing was changed: another file took the name of the $w while the run was under way\n",
     );
     Err(Told)
@@ -139,10 +139,10 @@ fn is_ready(
 fn saved(
     rt: &HostRuntime,
     p: Program,
-    table: &str,
+    table: &[u8],
     mut kept: File,
     seen: Option<Seen>,
-    replies: &str,
+    replies: &[u8],
     out: &File,
     r: &Run,
     t: &[u8],
@@ -162,10 +162,10 @@ fn saved(
 pub fn is_finished(
     rt: &HostRuntime,
     p: Program,
-    table: &str,
+    table: &[u8],
     kept: File,
     seen: Option<Seen>,
-    replies: &str,
+    replies: &[u8],
     out: &File,
     r: &Run,
     t: &[u8],
@@ -180,12 +180,12 @@ pub fn is_finished(
     }
 }
 
-fn tell_unflushed(rt: &HostRuntime, p: Program, replies: &str, r: &Run) {
+fn tell_unflushed(rt: &HostRuntime, p: Program, replies: &[u8], r: &Run) {
     say::of_file(
         rt,
         p,
         replies,
-        ".new",
+        b".new",
         b"holds the $w; send none before 'sync' has flushed the $k's folder",
     );
     underway::tell_move(rt, replies, r);
@@ -193,21 +193,21 @@ fn tell_unflushed(rt: &HostRuntime, p: Program, replies: &str, r: &Run) {
 }
 
 // Takes a name that nothing has; renaming alone would replace a file that came meanwhile.
-fn is_taken(rt: &HostRuntime, replies: &str) -> bool {
-    cli_beside::make(rt, replies, "").is_ok()
+fn is_taken(rt: &HostRuntime, replies: &[u8]) -> bool {
+    cli_beside::make(rt, replies, b"").is_ok()
 }
 
 // Gives the replies their name.
-fn is_named(rt: &HostRuntime, p: Program, replies: &str, out: &File, r: &Run) -> Result<(), Told> {
-    if !cli_beside::is_ours(rt, replies, ".new", out)
+fn is_named(rt: &HostRuntime, p: Program, replies: &[u8], out: &File, r: &Run) -> Result<(), Told> {
+    if !cli_beside::is_ours(rt, replies, b".new", out)
         || !is_taken(rt, replies)
-        || cli_beside::take_name(rt, replies, ".new").is_err()
+        || cli_beside::take_name(rt, replies, b".new").is_err()
     {
         say::of_file(
             rt,
             p,
             replies,
-            ".new",
+            b".new",
             b"holds the $w, which could not be given their name; the $k was saved",
         );
         underway::tell_move(rt, replies, r);
@@ -238,7 +238,7 @@ pub fn is_put(
     rt: &HostRuntime,
     p: Program,
     out: &mut Growing,
-    replies: &str,
+    replies: &[u8],
     reply: &[u8],
 ) -> Result<(), Told> {
     if reply.is_empty() {
@@ -257,7 +257,7 @@ pub fn is_put(
 }
 
 // Whether what was written, and its name, are on the disk.
-pub fn is_flushed(rt: &HostRuntime, p: Program, replies: &str, out: &File) -> Result<(), Told> {
+pub fn is_flushed(rt: &HostRuntime, p: Program, replies: &[u8], out: &File) -> Result<(), Told> {
     if let Err(e) = out.sync_all() {
         cli_beside::trouble_new(
             rt,

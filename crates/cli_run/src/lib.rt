@@ -92,7 +92,7 @@ pub fn is_living(rt: &HostRuntime, r: &Run) -> bool {
 // Whether the system shows a process of that number; so too where it can't be asked.
 fn is_shown(rt: &HostRuntime, process: u32) -> bool {
     match format!(in rt.alloc(); "/proc/{process}") {
-        Ok(path) => cli_files::of_name(rt, path.as_str()).is_ok(),
+        Ok(path) => cli_files::of_name(rt, path.as_bytes()).is_ok(),
         Err(_) => true,
     }
 }

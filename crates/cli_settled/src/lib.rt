@@ -10,7 +10,7 @@ use session::Session;
 use size_limit::Growing;
 use std::io;
 
-pub fn is_told(rt: &HostRuntime, written: io::Result<()>, replies: &str) -> Result<(), Told> {
+pub fn is_told(rt: &HostRuntime, written: io::Result<()>, replies: &[u8]) -> Result<(), Told> {
     written.map_err(|e| {
         say::trouble(
             rt,
@@ -43,7 +43,7 @@ fn session_before(t: &mut [u8], s: Session, input: &[u8], n: usize) -> Session {
 pub fn is_step_explained(
     rt: &HostRuntime,
     explanations: &mut Growing,
-    replies: &str,
+    replies: &[u8],
     before: &mut [u8],
     t: &[u8],
     s: Session,
@@ -68,7 +68,7 @@ pub fn is_step_explained(
 pub fn is_end_explained(
     rt: &HostRuntime,
     explanations: &mut Option<Growing>,
-    replies: &str,
+    replies: &[u8],
     before: &[u8],
     t: &[u8],
     s: Session,

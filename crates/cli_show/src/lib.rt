@@ -38,7 +38,7 @@ fn holidays(rt: &HostRuntime, h: &table::Holidays) -> io::Result<()> {
 }
 
 fn settings(rt: &HostRuntime, s: &customer::Settings) -> io::Result<()> {
-    cli_shown::who(rt, b"bank        ", &s.bank)?;
+    cli_shown::who(rt, b"bank        ", &s.bank, 17)?;
     say::out(rt, b"software    ")?;
     cli_shown::name(rt, &s.software)?;
     say::out(rt, b"\nfloor       ")?;
@@ -151,7 +151,7 @@ fn permits(rt: &HostRuntime, c: &customer::Customer) -> io::Result<()> {
 fn customer_at(rt: &HostRuntime, t: &[u8], i: usize) -> io::Result<()> {
     let c = table::load(t, i);
     let today = table::day(t);
-    cli_shown::who(rt, b"\ncustomer    ", &c.who)?;
+    cli_shown::who(rt, b"\ncustomer    ", &c.who, 17)?;
     permits(rt, &c)?;
     key_pair(rt, b"  transport  ", &c.transport, today)?;
     key_pair(rt, b"  working    ", &c.working, today)?;
@@ -229,6 +229,6 @@ pub fn show(rt: &HostRuntime, words: &Words) -> Result<Status, Told> {
     words.are_taken(rt, Program::Lentilpot, b"")?;
     let table = cli_names::of(rt, Program::Lentilpot, words.word(2), b"TABLE")?;
     let mut t = [0u8; 49152];
-    cli_table::load(rt, Program::Lentilpot, table.as_str(), &mut t)?;
+    cli_table::load(rt, Program::Lentilpot, table.as_slice(), &mut t)?;
     show_table(rt, words, &t)
 }

@@ -23,12 +23,15 @@ pub fn name(rt: &HostRuntime, s: &[u8]) -> io::Result<()> {
     say::out(rt, b"\"")
 }
 
-// An identity of 17 characters, and the qualifier after it.
-pub fn who(rt: &HostRuntime, label: &[u8], who: &[u8; 25]) -> io::Result<()> {
+// An identity of n characters, and the qualifier after it.
+pub fn who(rt: &HostRuntime, label: &[u8], who: &[u8], n: usize) -> io::Result<()> {
+    let Some((identity, qualifier)) = who.split_at_checked(n) else {
+        return Err(io::Error::from(io::ErrorKind::InvalidInput));
+    };
     say::out(rt, label)?;
-    name(rt, &who[..17])?;
+    name(rt, identity)?;
     say::out(rt, b" qualifier ")?;
-    name(rt, &who[17..])?;
+    name(rt, qualifier)?;
     say::out(rt, b"\n")
 }
 

@@ -19,7 +19,7 @@ pub enum Saved {
     Whole,
 }
 
-pub fn wrong_size(rt: &HostRuntime, p: Program, table: &str) {
+pub fn wrong_size(rt: &HostRuntime, p: Program, table: &[u8]) {
     cli_beside::tell(
         rt,
         p,
@@ -29,7 +29,7 @@ pub fn wrong_size(rt: &HostRuntime, p: Program, table: &str) {
 }
 
 // Whether a file may be a table: saving gives the table's name to a new file, so a link, or another name, would go on with the old stamps.
-fn is_alone(rt: &HostRuntime, p: Program, table: &str, seen: &Seen) -> Result<(), Told> {
+fn is_alone(rt: &HostRuntime, p: Program, table: &[u8], seen: &Seen) -> Result<(), Told> {
     let what: &[u8] = if cli_files::is_link(seen.mode) {
         b"a link, which saving would part from its file, and $a: expected the $k itself\n"
     } else if !cli_files::is_regular(seen.mode) {
@@ -44,7 +44,7 @@ fn is_alone(rt: &HostRuntime, p: Program, table: &str, seen: &Seen) -> Result<()
 }
 
 // Opens a table, or says what is the matter where it is none.
-fn open_table(rt: &HostRuntime, p: Program, table: &str) -> Result<File, Told> {
+fn open_table(rt: &HostRuntime, p: Program, table: &[u8]) -> Result<File, Told> {
     let what = b"can't open the $k, expected a file of $n bytes, made by '$m'";
     let seen = match cli_files::of_name(rt, table) {
         Ok(seen) => seen,
@@ -76,7 +76,7 @@ fn is_seen(file: &File, seen: &Seen) -> bool {
 }
 
 // Reads the table, which has to fill its room.
-pub fn load(rt: &HostRuntime, p: Program, table: &str, t: &mut [u8]) -> Result<(), Told> {
+pub fn load(rt: &HostRuntime, p: Program, table: &[u8], t: &mut [u8]) -> Result<(), Told> {
     let mut file = open_table(rt, p, table)?;
     let n = cli_files::read_full(&mut file, t);
     is_whole(rt, p, table, &mut file, n, t.len())
@@ -86,7 +86,7 @@ pub fn load(rt: &HostRuntime, p: Program, table: &str, t: &mut [u8]) -> Result<(
 fn is_whole(
     rt: &HostRuntime,
     p: Program,
-    table: &str,
+    table: &[u8],
     file: &mut File,
     n: usize,
     size: usize,
@@ -107,7 +107,7 @@ fn is_whole(
 
 // Whether a table may be set up there: nothing has the name. A table that is there would lose its used stamps, and an empty file
 // may be a run's.
-pub fn is_free(rt: &HostRuntime, p: Program, table: &str) -> Result<(), Told> {
+pub fn is_free(rt: &HostRuntime, p: Program, table: &[u8]) -> Result<(), Told> {
     if let Err(e) = cli_files::of_name(rt, table) {
         return cli_beside::is_missing(rt, p, b"can't set up a $k there", table, &e);
     }
@@ -122,8 +122,8 @@ pub fn is_free(rt: &HostRuntime, p: Program, table: &str) -> Result<(), Told> {
 
 // Makes TABLE.new. It is to hold keys, so it is its owner's alone from its first moment; later the table's owner's, and open to those that
 // the table is.
-pub fn begin(rt: &HostRuntime, p: Program, table: &str) -> Result<File, Told> {
-    match cli_beside::make_private(rt, table, ".new") {
+pub fn begin(rt: &HostRuntime, p: Program, table: &[u8]) -> Result<File, Told> {
+    match cli_beside::make_private(rt, table, b".new") {
         Ok(file) => match is_kept(rt, p, table, &file) {
             Ok(()) => Ok(file),
             Err(told) => {
@@ -139,17 +139,17 @@ pub fn begin(rt: &HostRuntime, p: Program, table: &str) -> Result<File, Told> {
 }
 
 // A file of that name without a lock: an empty one is of a run that was cut off, another may be anybody's.
-fn tell_unmade(rt: &HostRuntime, p: Program, table: &str, e: &io::Error) {
+fn tell_unmade(rt: &HostRuntime, p: Program, table: &[u8], e: &io::Error) {
     if e.kind() != ErrorKind::AlreadyExists {
         cli_beside::trouble_new(rt, p, b"can't make the new $k", table, e);
         return;
     }
-    if !cli_beside::is_empty(rt, table, ".new") {
+    if !cli_beside::is_empty(rt, table, b".new") {
         say::of_file(
             rt,
             p,
             table,
-            ".new",
+            b".new",
             b"there is a file already, which no run says is its own; nothing was changed: move it away if it is no other run's or $k\n",
         );
         return;
@@ -158,15 +158,15 @@ fn tell_unmade(rt: &HostRuntime, p: Program, table: &str, e: &io::Error) {
         rt,
         p,
         table,
-        ".new",
+        b".new",
         b"left by a run that did not change the $k, and whose lock was removed; if no $p runs on it: To mend: rm",
     );
-    say::quoted(rt, table.as_bytes(), b".new");
+    say::quoted(rt, table, b".new");
     say::end_line(rt);
 }
 
 // Whether TABLE.new's name has reached the disk; it has the table's owner and mode, where the system lets us.
-fn is_kept(rt: &HostRuntime, p: Program, table: &str, file: &File) -> Result<(), Told> {
+fn is_kept(rt: &HostRuntime, p: Program, table: &[u8], file: &File) -> Result<(), Told> {
     if let Ok(seen) = cli_files::of_name(rt, table) {
         keep_as(file, &seen);
     }
@@ -184,8 +184,8 @@ fn keep_as(file: &File, seen: &Seen) {
 }
 
 // Leaves the table as it was.
-pub fn give_up(rt: &HostRuntime, table: &str, file: File) {
-    if cli_beside::is_ours(rt, table, ".new", &file) {
+pub fn give_up(rt: &HostRuntime, table: &[u8], file: File) {
+    if cli_beside::is_ours(rt, table, b".new", &file) {
         cli_beside::remove_new(rt, table);
     }
 }
@@ -199,7 +199,7 @@ fn write_whole(rt: &HostRuntime, file: &mut File, t: &[u8]) -> io::Result<()> {
 fn is_written(
     rt: &HostRuntime,
     p: Program,
-    table: &str,
+    table: &[u8],
     file: &mut File,
     t: &[u8],
 ) -> Result<(), Told> {
@@ -220,7 +220,7 @@ fn is_written(
 pub fn save(
     rt: &HostRuntime,
     p: Program,
-    table: &str,
+    table: &[u8],
     file: &mut File,
     t: &[u8],
     seen: Option<Seen>,
@@ -228,7 +228,7 @@ pub fn save(
     if is_written(rt, p, table, file, t).is_err() {
         return Saved::Not;
     }
-    if !cli_beside::is_ours(rt, table, ".new", file) || !is_still(rt, table, seen) {
+    if !cli_beside::is_ours(rt, table, b".new", file) || !is_still(rt, table, seen) {
         cli_beside::tell(
             rt,
             p,
@@ -237,7 +237,7 @@ pub fn save(
         );
         return Saved::Not;
     }
-    if let Err(e) = cli_beside::take_name(rt, table, ".new") {
+    if let Err(e) = cli_beside::take_name(rt, table, b".new") {
         say::trouble(
             rt,
             p,
@@ -261,7 +261,7 @@ pub fn save(
 }
 
 // Whether a table is still what was seen of its name: that file, or nothing.
-fn is_still(rt: &HostRuntime, table: &str, seen: Option<Seen>) -> bool {
+fn is_still(rt: &HostRuntime, table: &[u8], seen: Option<Seen>) -> bool {
     match (seen, cli_files::of_name(rt, table)) {
         (Some(seen), Ok(now)) => cli_files::is_same(&now, &seen),
         (seen, now) => seen.is_none() && now.is_err(),

@@ -97,8 +97,8 @@ pub fn expected(rt: &HostRuntime, p: Program, name: &[u8], what: &[u8]) {
 }
 
 // A file with which something can't be done, and why the system says so.
-pub fn trouble(rt: &HostRuntime, p: Program, what: &[u8], path: &str, e: &io::Error) {
-    trouble_beside(rt, p, what, path, "", e);
+pub fn trouble(rt: &HostRuntime, p: Program, what: &[u8], path: &[u8], e: &io::Error) {
+    trouble_beside(rt, p, what, path, b"", e);
 }
 
 // The same of the file beside a name.
@@ -106,22 +106,22 @@ pub fn trouble_beside(
     rt: &HostRuntime,
     p: Program,
     what: &[u8],
-    path: &str,
-    ending: &str,
+    path: &[u8],
+    ending: &[u8],
     e: &io::Error,
 ) {
     begin_line(rt, p);
     told(rt, p, what);
     err(rt, b": ");
-    err(rt, path.as_bytes());
-    fail(rt, ending.as_bytes(), e);
+    err(rt, path);
+    fail(rt, ending, e);
 }
 
 // A file of which something is to be told.
-pub fn of_file(rt: &HostRuntime, p: Program, path: &str, ending: &str, what: &[u8]) {
+pub fn of_file(rt: &HostRuntime, p: Program, path: &[u8], ending: &[u8], what: &[u8]) {
     begin_line(rt, p);
-    err(rt, path.as_bytes());
-    err(rt, ending.as_bytes());
+    err(rt, path);
+    err(rt, ending);
     err(rt, b": ");
     told(rt, p, what);
 }
