@@ -97,7 +97,7 @@ fn receive_file(
     o: Opening,
     size: usize,
 ) -> Result<Status, Told> {
-    if file == "-" {
+    if file == b"-".as_slice() {
         let mut input = rt.stdin();
         let given = cli_files::of_descriptor(rt, &input).ok();
         return receive_open(rt, words, table, &mut input, given, file, replies, o, size);

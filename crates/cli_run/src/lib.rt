@@ -22,7 +22,7 @@ fn letter(b: u8) -> u8 {
 pub fn begun(rt: &HostRuntime, p: Program) -> Result<Run, Told> {
     let mut letters = [0u8; 16];
     if let Err(e) = rt.fill_bytes(&mut letters) {
-        say::trouble(rt, p, b"can't begin a run", "random bytes", &e);
+        say::trouble(rt, p, b"can't begin a run", b"random bytes", &e);
         return Err(Told);
     }
     for b in letters.iter_mut() {
