@@ -5,7 +5,7 @@
  * To build, at the root of the repository, with the Rattle kit:
  *     sh scripts/staticlib edge                                          proves the library, writes target/staticlib/libedge.a
  *     cc -std=c99 -Iinclude box.c target/staticlib/libedge.a -o box      compiles and links; nothing else is needed
- * On a processor that isn't x86-64: sh scripts/nativelib edge, and target/native/libedge.a.
+ * On aarch64: sh scripts/nativelib edge, and target/native/libedge.a.
  * The customer's calls (the last two sections) are in an archive of their own: sh scripts/staticlib desk_edge, target/staticlib/libdesk_edge.a.
  * A box links the archive that it calls; both may be linked together.
  *

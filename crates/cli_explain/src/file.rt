@@ -1,25 +1,8 @@
 // A file of replies, read one by one: an ESI of 237 characters or a PTE of 317, and its LF.
-ghost use Rattle.std.specs.Prelude.{◌≤◌, length, IfOk};
-
 use crate::Untold;
 use crate::parts::first_of;
-use std::io;
+use cli_files::read_in;
 use std::io::Read;
-
-// Bytes up to the room's end or the file's.
-fn read_in<R: Read>(input: &mut R, room: &mut [u8]) -> io::Result<usize>
-    ensures { IfOk result (λ n. n ≤ length room.new) }
-{
-    let mut count = 0;
-    while count < room.len() {
-        let n = input.read(&mut room[count..])?;
-        if n == 0 {
-            return Ok(count);
-        }
-        count += n;
-    }
-    Ok(count)
-}
 
 // Bytes end a reply where they are as many as were asked for and end it.
 fn ended(is_end: bool) -> Result<(), Untold> {

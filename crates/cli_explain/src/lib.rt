@@ -40,6 +40,13 @@ pub enum Untold {
     Unwritten(io::Error),
 }
 
+// The same, and how many were told before.
+#[derive(Drop)]
+pub struct Unfinished {
+    pub why: Untold,
+    pub count: Count,
+}
+
 // An error on the way is one of reading; what is written is told by itself.
 impl From<io::Error> for Untold {
     fn from(e: io::Error) -> Untold {
@@ -251,16 +258,32 @@ fn tell_one<W: Write>(out: &mut W, r: [u8; 237], c: Count) -> io::Result<()> {
     cli_texts::is_written(out, &l)
 }
 
+// The next reply of the file, told; at its end how many they were is told, and there is none.
+fn told_next<R: Read, W: Write>(
+    input: &mut R,
+    output: &mut W,
+    count: Count,
+) -> Result<Option<[u8; 237]>, Untold> {
+    let Some(r) = file::read_next(input)? else {
+        tell_count(output, count).map_err(|e| Untold::Unwritten(e))?;
+        return Ok(None);
+    };
+    tell_one(output, r, count).map_err(|e| Untold::Unwritten(e))?;
+    Ok(Some(r))
+}
+
 // The replies of an open file, told to another, and how many they were.
-pub fn replies<R: Read, W: Write>(input: &mut R, output: &mut W) -> Result<Count, Untold> {
+pub fn replies<R: Read, W: Write>(input: &mut R, output: &mut W) -> Result<Count, Unfinished> {
     let mut count = no_count();
     for _ in 0..u64::MAX {
-        let Some(r) = file::read_next(input)? else {
-            tell_count(output, count).map_err(|e| Untold::Unwritten(e))?;
-            return Ok(count);
-        };
-        tell_one(output, r, count).map_err(|e| Untold::Unwritten(e))?;
-        count = counted_with(count, r);
+        match told_next(input, output, count) {
+            Ok(Some(r)) => count = counted_with(count, r),
+            Ok(None) => return Ok(count),
+            Err(why) => return Err(Unfinished { why, count }),
+        }
     }
-    Err(Untold::NotReplies)
+    Err(Unfinished {
+        why: Untold::NotReplies,
+        count,
+    })
 }

@@ -112,6 +112,21 @@ pub fn is_same(a: &Seen, b: &Seen) -> bool
     a.device == b.device && a.inode == b.inode
 }
 
+// Reads bytes up to the room's end or the file's, and how many those were.
+pub fn read_in<R: Read>(input: &mut R, room: &mut [u8]) -> io::Result<usize>
+    ensures { IfOk result (λ n. n ≤ length room.new) }
+{
+    let mut count = 0;
+    while count < room.len() {
+        let n = input.read(&mut room[count..])?;
+        if n == 0 {
+            return Ok(count);
+        }
+        count += n;
+    }
+    Ok(count)
+}
+
 // Reads as much as the room takes, and how much that was; a read that fails ends it, as the file's end does.
 pub fn read_full<R: Read>(input: &mut R, room: &mut [u8]) -> usize
     ensures { result ≤ length room.new }

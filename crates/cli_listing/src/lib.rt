@@ -127,11 +127,11 @@ fn more(l: Listed, refused: u64) -> Listed {
 // Reads as much as the room takes; false at the file's end.
 fn read_whole<R: Read>(input: &mut R, room: &mut [u8]) -> io::Result<bool> {
     let size = room.len();
-    let got = cli_files::read_full(input, room);
+    let got = cli_files::read_in(input, room)?;
     if got == size {
         return Ok(true);
     }
-    if got == 0 && input.read(&mut [0u8; 1])? == 0 {
+    if got == 0 {
         return Ok(false);
     }
     Err(io::Error::from(io::ErrorKind::UnexpectedEof))

@@ -75,9 +75,10 @@ fn tell_unmade(rt: &HostRuntime, p: Program, replies: &[u8], e: &io::Error) {
     }
     let mut file = [0u8; 65536];
     let n = cli_beside::read_beside(rt, replies, b".run", &mut file);
-    let table = crate::name_of(cli_run::name(&file[..n]));
-    match (cli_run::read(&file[..n]), table) {
+    let name = cli_run::name(&file[..n]);
+    match (cli_run::read(&file[..n]), crate::name_of(name)) {
         (Some(r), Some(table)) => tell_other(rt, p, replies, table, &r),
+        (Some(_), None) if !cli_asked::has_control(name) => tell_unnamed(rt, p, replies),
         _ => tell_unsigned(rt, p, replies),
     }
 }
@@ -113,6 +114,17 @@ fn tell_unsigned(rt: &HostRuntime, p: Program, replies: &[u8]) {
     );
     say::quoted(rt, replies, b".run");
     say::end_line(rt);
+}
+
+// Replies of a run on a table whose name can't be asked for here.
+fn tell_unnamed(rt: &HostRuntime, p: Program, replies: &[u8]) {
+    say::of_file(
+        rt,
+        p,
+        replies,
+        b".run",
+        b"nothing was changed: $w of that name are under way, by a run on a $k whose name isn't UTF-8: choose another name for $W\n",
+    );
 }
 
 // Replies of a run that is known: it lives, or its table's lock tells what is the case, or that lock is gone.

@@ -1,5 +1,5 @@
 // The command explain: replies for people.
-use cli_explain::{Count, Untold};
+use cli_explain::{Count, Unfinished, Untold};
 use cli_terminal::options::Words;
 use cli_terminal::program::Program;
 use cli_terminal::say;
@@ -39,7 +39,7 @@ fn tell(rt: &HostRuntime, path: &[u8], why: Untold) {
 fn explained(rt: &HostRuntime, path: &[u8], input: &mut File) -> Result<Status, Told> {
     match cli_explain::replies(input, &mut rt.stdout()) {
         Ok(count) => Ok(of_count(count)),
-        Err(why) => {
+        Err(Unfinished { why, count: _ }) => {
             tell(rt, path, why);
             Err(Told)
         }

@@ -7,7 +7,7 @@ use cli_terminal::status::Told;
 use std::process;
 use std::random::RandomSource;
 
-// Process 0 is nobody.
+// A process, by its number, and the letters of its run.
 #[derive(Clone, Copy, PartialEq)]
 pub struct Run {
     pub process: u32,

@@ -1,6 +1,8 @@
 // What both programs' `show` have in common.
 #![tactic(auto)]
 
+ghost use Rattle.std.specs.Prelude.{◌≤◌, length};
+
 use cli_terminal::say;
 use std::io;
 
@@ -9,7 +11,9 @@ pub fn number(rt: &HostRuntime, n: u64) -> io::Result<()> {
 }
 
 // A name without the blanks at its end.
-fn trimmed(s: &[u8]) -> &[u8] {
+fn trimmed(s: &[u8]) -> &[u8]
+    ensures { length result.now ≤ length s.now }
+{
     match s.iter().rposition(|&b| b != b' ') {
         Some(last) => &s[..=last],
         None => b"",

@@ -20,7 +20,8 @@ fn is_option(word: &[u8]) -> bool {
 }
 
 impl Words {
-    // Reads the words, each of at most 4,096 bytes; a longer one, or one more than there are, ends them.
+    // Reads the words, each of at most 4,096 bytes; a longer one, or one more than there are, ends them. The program's own name, word 0, is
+    // asked for by nobody, and an empty one stands for a longer one.
     pub fn read(rt: &HostRuntime) -> io::Result<Words> {
         let mut words = Words {
             counted: Vec::new(rt.alloc()),
@@ -31,8 +32,10 @@ impl Words {
         let mut is_ended = false;
         let mut room = [0u8; 4096];
         for i in 0..usize::MAX {
-            let Ok(n) = rt.arg(i, &mut room) else {
-                break;
+            let n = match rt.arg(i, &mut room) {
+                Ok(n) => n,
+                Err(FillError::TooLong) if i == 0 => 0,
+                Err(_) => break,
             };
             let word = &room[..n];
             words.all = i + 1;

@@ -1,3 +1,4 @@
+-- What was read is never more than the room, and each read that goes on leaves less of it.
 use Rattle.std.proofs.Common.{length, ◌-◌, ◌≤◌}
 use Rattle.cli_files.proofs.read_full.Given as goal
 
