@@ -229,4 +229,22 @@ files "FILE: expected the name of a file, without control characters" t "$newlin
 mkdir "$newline"
 (cd "$newline" && lentilpot show ../t >../out 2>../told && exit 1 || [ $? -eq 2 ]) || fail "a folder with an LF in its name was taken"
 grep -qF "without control characters" told || fail "a folder with an LF in its name was not told"
+
+# ---- names that aren't UTF-8, which no file can have here: a word, a folder, and what other programs may have written into a lock
+other=$(printf 'caf\351')
+told "TABLE: expected the name of a file, in UTF-8" show "$other"
+files "REPLIES: expected the name of a file, in UTF-8" t good "$other"
+files "FILE: expected the name of a file, in UTF-8" t "$other" r
+told "V: expected the name of a file, in UTF-8" setup n BANK "" SOFT 110 0123456789ABCDEF "@$other"
+mkdir "$other"
+(cd "$other" && lentilpot show t >../out 2>../told && exit 1 || [ $? -eq 2 ]) || fail "a name below a folder that isn't UTF-8 was taken"
+grep -qF "a name that begins with '/'" told || fail "a folder that isn't UTF-8 was not told"
+(cd "$other" && lentilpot show "$work/t" >../out 2>../told) || fail "a whole name was not taken in a folder that isn't UTF-8"
+over='4294967295 AAAAAAAAAAAAAAAA'
+printf '%s\n%s\n' "$over" "$work/$other" >t.lock
+files "names its replies by a name that isn't UTF-8: nothing can be told of it" t good r
+rm t.lock
+printf '%s\n%s\n' "$over" "$work/$other" >r.run
+files "r.run: nothing was changed: replies of that name are under way, by a run on a table whose name isn't UTF-8: choose another name for REPLIES" t good r
+rm r.run
 echo "names: $count names and kinds of files, each told in one line, nothing changed and nothing waited for"

@@ -119,4 +119,9 @@ rm -f t.lock
 # a refused call leaves the table's file as it was
 lentilpot order t 941016 $ID X $K >out || true
 { grep -qF "refused 7: " out && cmp -s t before; } || { echo "tests/words: refused 7 was expected, and the table as it was" >&2; cat out >&2; exit 1; }
+# the program's own name is no word of the command, however long (where the program runs by itself)
+if [ "$(uname -m)" = x86_64 ]; then
+    long=$(head -c 5000 /dev/zero | tr '\0' a)
+    (exec -a "$long" "$program" show t) >out 2>err || { echo "tests/words: a long name of the program ended it" >&2; cat err >&2; exit 1; }
+fi
 echo "words: $count bad words and files, each told in one line and nothing changed"
