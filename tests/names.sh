@@ -230,7 +230,7 @@ mkdir "$newline"
 (cd "$newline" && lentilpot show ../t >../out 2>../told && exit 1 || [ $? -eq 2 ]) || fail "a folder with an LF in its name was taken"
 grep -qF "without control characters" told || fail "a folder with an LF in its name was not told"
 
-# ---- names that aren't UTF-8, which no file can have here: a word, a folder, and what other programs may have written into a lock
+# ---- names that aren't UTF-8, which can't be asked for here: a word, a folder, and what other programs may have written into a lock
 other=$(printf 'caf\351')
 told "TABLE: expected the name of a file, in UTF-8" show "$other"
 files "REPLIES: expected the name of a file, in UTF-8" t good "$other"
@@ -245,6 +245,6 @@ printf '%s\n%s\n' "$over" "$work/$other" >t.lock
 files "names its replies by a name that isn't UTF-8: nothing can be told of it" t good r
 rm t.lock
 printf '%s\n%s\n' "$over" "$work/$other" >r.run
-files "r.run: nothing was changed: replies of that name are under way, by a run on a table whose name isn't UTF-8: choose another name for REPLIES" t good r
+files "', runs no more and its table has a name that isn't UTF-8: nothing can be told of it; choose another name for REPLIES" t good r
 rm r.run
 echo "names: $count names and kinds of files, each told in one line, nothing changed and nothing waited for"

@@ -283,7 +283,7 @@ pub fn replies<R: Read, W: Write>(input: &mut R, output: &mut W) -> Result<Count
         }
     }
     Err(Unfinished {
-        why: Untold::NotReplies,
+        why: Untold::Unread(io::Error::from(io::ErrorKind::FileTooLarge)),
         count,
     })
 }

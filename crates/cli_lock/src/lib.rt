@@ -125,26 +125,24 @@ fn tell(rt: &HostRuntime, p: Program, table: &[u8]) {
     cli_run::tell(rt, &r);
     say::err(rt, b", which runs no more and ");
     let name = cli_run::name(&lock[..n]);
-    match name_of(name) {
-        Some(replies) => tell_mend(rt, p, table, replies, &r),
-        None => say::told(rt, p, untold(name)),
-    }
-}
-
-// A name that can be told in one line, and asked for.
-fn name_of(bytes: &[u8]) -> Option<&[u8]> {
-    if cli_asked::has_control(bytes) || cli_files::as_path(bytes).is_err() {
-        return None;
-    }
-    Some(bytes)
-}
-
-// Why nothing is told of a name.
-fn untold(name: &[u8]) -> &'static [u8] {
     if cli_asked::has_control(name) {
-        return b"names its $w with control characters: nothing can be told of it\n";
+        say::told(
+            rt,
+            p,
+            b"names its $w with control characters: nothing can be told of it\n",
+        );
+        return;
     }
-    b"names its $w by a name that isn't UTF-8: nothing can be told of it\n"
+    // files that can't be asked for here
+    if str::from_utf8(name).is_err() {
+        say::told(
+            rt,
+            p,
+            b"names its $w by a name that isn't UTF-8: nothing can be told of it\n",
+        );
+        return;
+    }
+    tell_mend(rt, p, table, name, &r);
 }
 
 // Whether the lock of a table is of that run.

@@ -75,10 +75,9 @@ fn tell_unmade(rt: &HostRuntime, p: Program, replies: &[u8], e: &io::Error) {
     }
     let mut file = [0u8; 65536];
     let n = cli_beside::read_beside(rt, replies, b".run", &mut file);
-    let name = cli_run::name(&file[..n]);
-    match (cli_run::read(&file[..n]), crate::name_of(name)) {
-        (Some(r), Some(table)) => tell_other(rt, p, replies, table, &r),
-        (Some(_), None) if !cli_asked::has_control(name) => tell_unnamed(rt, p, replies),
+    let table = cli_run::name(&file[..n]);
+    match cli_run::read(&file[..n]) {
+        Some(r) if !cli_asked::has_control(table) => tell_other(rt, p, replies, table, &r),
         _ => tell_unsigned(rt, p, replies),
     }
 }
@@ -116,17 +115,6 @@ fn tell_unsigned(rt: &HostRuntime, p: Program, replies: &[u8]) {
     say::end_line(rt);
 }
 
-// Replies of a run on a table whose name can't be asked for here.
-fn tell_unnamed(rt: &HostRuntime, p: Program, replies: &[u8]) {
-    say::of_file(
-        rt,
-        p,
-        replies,
-        b".run",
-        b"nothing was changed: $w of that name are under way, by a run on a $k whose name isn't UTF-8: choose another name for $W\n",
-    );
-}
-
 // Replies of a run that is known: it lives, or its table's lock tells what is the case, or that lock is gone.
 fn tell_other(rt: &HostRuntime, p: Program, replies: &[u8], table: &[u8], r: &Run) {
     say::of_file(rt, p, replies, b".run", b"nothing was changed: ");
@@ -142,6 +130,15 @@ fn tell_other(rt: &HostRuntime, p: Program, replies: &[u8], table: &[u8], r: &Ru
         return;
     }
     say::err(rt, b", runs no more and ");
+    // a lock that can't be asked for here
+    if str::from_utf8(table).is_err() {
+        say::told(
+            rt,
+            p,
+            b"its $k has a name that isn't UTF-8: nothing can be told of it; choose another name for $W\n",
+        );
+        return;
+    }
     if crate::is_of(rt, table, r) {
         crate::tell_mend(rt, p, table, replies, r);
         return;
