@@ -240,6 +240,7 @@ mkdir "$other"
 (cd "$other" && lentilpot show t >../out 2>../told && exit 1 || [ $? -eq 2 ]) || fail "a name below a folder that isn't UTF-8 was taken"
 grep -qF "a name that begins with '/'" told || fail "a folder that isn't UTF-8 was not told"
 (cd "$other" && lentilpot show "$work/t" >../out 2>../told) || fail "a whole name was not taken in a folder that isn't UTF-8"
+rmdir "$other"
 over='4294967295 AAAAAAAAAAAAAAAA'
 printf '%s\n%s\n' "$over" "$work/$other" >t.lock
 files "names its replies by a name that isn't UTF-8: nothing can be told of it" t good r
