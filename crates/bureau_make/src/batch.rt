@@ -216,18 +216,10 @@ fn put_records(
     put_var(rt, out, file, o, d, copied.bytes, k, whole)
 }
 
-// Whether two files that were seen are the same one.
-fn are_same(a: Option<Seen>, b: Option<Seen>) -> bool {
-    match (a, b) {
-        (Some(a), Some(b)) => cli_files::is_same(&a, &b),
-        _ => false,
-    }
-}
-
 // Whether records are a file of their own: the desk holds keys, and the file that is being written would never end.
 fn is_other(rt: &HostRuntime, desk: Option<Seen>, input: &File, out: &File) -> Result<(), Told> {
     let seen = cli_files::of_open(input).ok();
-    if are_same(seen, desk) || are_same(seen, cli_files::of_open(out).ok()) {
+    if cli_files::are_same(seen, desk) || cli_files::are_same(seen, cli_files::of_open(out).ok()) {
         say::expected(
             rt,
             Program::Bureau,

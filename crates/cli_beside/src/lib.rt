@@ -169,10 +169,10 @@ pub fn is_missing(
 
 // Whether the file beside a name is the open one.
 pub fn is_ours(rt: &HostRuntime, name: &[u8], ending: &[u8], file: &File) -> bool {
-    match (cli_files::of_open(file), seen_beside(rt, name, ending)) {
-        (Ok(ours), Ok(seen)) => cli_files::is_same(&ours, &seen),
-        _ => false,
-    }
+    cli_files::are_same(
+        cli_files::of_open(file).ok(),
+        seen_beside(rt, name, ending).ok(),
+    )
 }
 
 // The name of an open file, as the system tells it.

@@ -1,7 +1,7 @@
 // What a file is, so that a program tells files apart by device and inode and not by their names.
 #![tactic(auto)]
 
-ghost use Rattle.std.specs.Prelude.{◌≡◌, ◌≢◌, ◌↔◌, ◌≤◌, IsTrue, IsOk, IfOk, IsUtf8, All, length, bit_and};
+ghost use Rattle.std.specs.Prelude.{◌≡◌, ◌≢◌, ◌↔◌, ◌≤◌, IsTrue, IsOk, IfOk, IsSomeAnd, IsUtf8, All, length, bit_and};
 ghost use Rattle.std.specs.Fs.{metadata_mode};
 
 use std::fs::{File, Metadata};
@@ -110,6 +110,16 @@ pub fn is_same(a: &Seen, b: &Seen) -> bool
     ensures { IsTrue result ↔ (a.now.device ≡ b.now.device × a.now.inode ≡ b.now.inode) }
 {
     a.device == b.device && a.inode == b.inode
+}
+
+// Whether both were seen, and are the same file.
+pub fn are_same(a: Option<Seen>, b: Option<Seen>) -> bool
+    ensures { IsTrue result ↔ IsSomeAnd a (λ x. IsSomeAnd b (λ y. x.device ≡ y.device × x.inode ≡ y.inode)) }
+{
+    match (a, b) {
+        (Some(a), Some(b)) => is_same(&a, &b),
+        _ => false,
+    }
 }
 
 // Reads bytes up to the room's end or the file's, and how many those were.

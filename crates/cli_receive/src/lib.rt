@@ -152,14 +152,6 @@ fn answered(
     }
 }
 
-// Whether two files that were seen are the same one.
-fn are_same(a: Option<Seen>, b: Option<Seen>) -> bool {
-    match (a, b) {
-        (Some(a), Some(b)) => cli_files::is_same(&a, &b),
-        _ => false,
-    }
-}
-
 // Loads the table and opens the file.
 fn under_lock<I: Read>(
     rt: &HostRuntime,
@@ -176,7 +168,7 @@ fn under_lock<I: Read>(
     let mut t = [0u8; 49152];
     let seen = cli_files::of_name(rt, table).ok();
     cli_table::load(rt, Program::Lentilpot, table, &mut t)?;
-    if are_same(given, seen) {
+    if cli_files::are_same(given, seen) {
         say::expected(rt, Program::Lentilpot, b"FILE", b"another file than TABLE");
         return Err(Told);
     }
