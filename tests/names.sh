@@ -229,6 +229,7 @@ files "FILE: expected the name of a file, without control characters" t "$newlin
 mkdir "$newline"
 (cd "$newline" && lentilpot show ../t >../out 2>../told && exit 1 || [ $? -eq 2 ]) || fail "a folder with an LF in its name was taken"
 grep -qF "without control characters" told || fail "a folder with an LF in its name was not told"
+rmdir "$newline"
 
 # ---- names that aren't UTF-8, which can't be asked for here: a word, a folder, and what other programs may have written into a lock
 other=$(printf 'caf\351')
@@ -247,5 +248,12 @@ files "names its replies by a name that isn't UTF-8: nothing can be told of it" 
 rm t.lock
 printf '%s\n%s\n' "$over" "$work/$other" >r.run
 files "', runs no more and its table has a name that isn't UTF-8: nothing can be told of it; choose another name for REPLIES" t good r
+rm r.run
+# of a run that lives, here this shell, all is told
+printf '%010d AAAAAAAAAAAAAAAA\n%s\n' $$ "$work/$other" >t.lock
+files "the table is in use by process $$" t good r
+rm t.lock
+printf '%010d AAAAAAAAAAAAAAAA\n%s\n' $$ "$work/$other" >r.run
+files "makes these replies: choose another name for REPLIES, or try again when it has ended" t good r
 rm r.run
 echo "names: $count names and kinds of files, each told in one line, nothing changed and nothing waited for"
