@@ -1,5 +1,6 @@
 -- What acceptance grants: each choice is one of a few answers, and what holds of each of them holds of what is chosen.
 -- Assumes nothing.
+use Rattle.std.specs.Prelude.{None, Option, Some}
 use mathlib.Core.Path.{◌≡◌, refl, sym, ap, subst, ◌∙◌}
 use mathlib.Core.Bool.{Bool, true, false}
 use mathlib.Core.List.{List, [], ◌∷◌}
@@ -19,8 +20,6 @@ use Rattle.keys.proofs.Laws.{made_odd}
 use Rattle.customer.specs.Customer.{sound_customer, sound_keys}
 use Rattle.customer.specs.declared.Customer.{Customer}
 use Rattle.changeover.specs.Changes.{with_keys, with_working, without_previous}
-use Rattle.changeover.specs.declared.Key.{Key}
-use Rattle.changeover.specs.declared.Key.TheVariants.{Missing, Is}
 use Rattle.changeover.proofs.Laws.{with_working_sound, without_previous_sound}
 use Rattle.acceptance.specs.Grants.{granted_by}
 use Rattle.acceptance.specs.Steps.{granted, under_previous, new_key, under_current}
@@ -43,11 +42,11 @@ codes = 1001 ∷ 1002 ∷ 1003 ∷ 1004 ∷ 1005 ∷ 1036 ∷ 1037 ∷ []
 module _ (c : Customer) (maker : KeyMaker) (clock : ℕ) (today : Date) (generation request : ℕ) where
   -- the customer as it was, without its previous key, or with a new one
   module _ (P : Granted → Type 0)
-      (same : (code : ℕ) (key : Key) → member code codes ≡ true → (key ≡ Missing) ⊎ (key ≡ Is c.working.key)
+      (same : (code : ℕ) (key : Option ℕ) → member code codes ≡ true → (key ≡ None) ⊎ (key ≡ Some c.working.key)
       → P (granted code c key 0 maker.seed))
-      (dropped : P (granted 1036 (without_previous c) Missing 0 maker.seed))
+      (dropped : P (granted 1036 (without_previous c) None 0 maker.seed))
       (renewed : (key : ℕ) → key ≡ key_of maker.key maker.seed clock
-      → P (granted 1003 (with_working c key today) (Is key) 1 (next_seed maker.key maker.seed clock))) where
+      → P (granted 1003 (with_working c key today) (Some key) 1 (next_seed maker.key maker.seed clock))) where
     by_previous : P (under_previous c maker request)
     unfolding under_previous member either
     by_previous = picked_each P _ _ _ (same 1002 _ refl (inr refl))
@@ -95,12 +94,12 @@ module _ (c : Customer) (maker : KeyMaker) (clock : ℕ) (today : Date) (generat
       by_answer (λ g. g.made ≡ 0 → g.seed ≡ maker.seed) (λ code key m w z. refl) (λ z. refl) (λ key e z. absurd (omega arith))
 
   -- an enclosed key has odd parity if the record's keys have
-  pub grant_odd : sound_customer c ≡ true → (x : ℕ) → (granted_by c maker clock today generation request).enclosed ≡ Is x
+  pub grant_odd : sound_customer c ≡ true → (x : ℕ) → (granted_by c maker clock today generation request).enclosed ≡ Some x
       → odd_parity x ≡ true
   unfolding sound_customer sound_keys
   grant_odd s =
       let odd : odd_parity c.working.key ≡ true = left _ _ (right _ _ (left _ _ (right _ _ (right _ _ (right _ _ (right _ _ s)))))) in
-      by_answer (λ g. (x : ℕ) → g.enclosed ≡ Is x → odd_parity x ≡ true)
+      by_answer (λ g. (x : ℕ) → g.enclosed ≡ Some x → odd_parity x ≡ true)
       (λ code key m w x e. ⊎_elim (λ h. absurd (let z : ◌≡◌ {A = ℕ} 0 1 = cc in omega arith))
       (λ h. let k : c.working.key ≡ x = cc in ap odd_parity (sym k) ∙ odd) w)
       (λ x e. absurd (let z : ◌≡◌ {A = ℕ} 0 1 = cc in omega arith))

@@ -1,5 +1,6 @@
 -- The first row that fits is what the choices one after the other lead to: by cases on the key used and the request.
 -- Assumes nothing.
+use Rattle.std.specs.Prelude.{None, Some}
 use mathlib.Core.Path.{◌≡◌, refl}
 use mathlib.Core.Bool.{Bool, true, false}
 use Prim.Native.Nat.{ℕ}
@@ -11,7 +12,6 @@ use Rattle.keys.specs.declared.KeyMaker.{KeyMaker}
 use Rattle.customer.specs.declared.Customer.{Customer}
 use Rattle.changeover.specs.Held.{changing}
 use Rattle.changeover.specs.Changes.{without_previous}
-use Rattle.changeover.specs.declared.Key.TheVariants.{Missing, Is}
 use Rattle.acceptance.specs.Grants.{on_acceptance, given, fits, nothing_granted, granted_by}
 use Rattle.acceptance.specs.Steps.{granted, under_previous, new_key, under_current}
 use Rattle.acceptance.specs.declared.Granted.{Granted}
@@ -19,10 +19,10 @@ use Rattle.acceptance.specs.declared.Granted.{Granted}
 module _ (c : Customer) (maker : KeyMaker) (clock : ℕ) (today : Date) where
   -- the code with the customer and the seed as they were
   abbrev only : ℕ → Granted
-  only code = granted code c Missing 0 maker.seed
+  only code = granted code c None 0 maker.seed
 
   abbrev with_current : ℕ → Granted
-  with_current code = granted code c (Is c.working.key) 0 maker.seed
+  with_current code = granted code c (Some c.working.key) 0 maker.seed
 
   -- current: the current key was used; keeps: request 0; asks: request 1
   by_tests : (current keeps asks : Bool)
@@ -32,7 +32,7 @@ module _ (c : Customer) (maker : KeyMaker) (clock : ℕ) (today : Date) where
       (pick keeps (only 1001)
       (pick asks
       (pick (fails c.leave) (only 1004) (pick (changing c.working.previous today) (only 1005) (new_key c maker clock today)))
-      (pick (changing c.working.previous today) (granted 1036 (without_previous c) Missing 0 maker.seed) (only 1037))))
+      (pick (changing c.working.previous today) (granted 1036 (without_previous c) None 0 maker.seed) (only 1037))))
       (pick keeps (with_current 1002) (pick asks (with_current 1003) (only 1037)))
   unfolding first_that on_acceptance both fails pick new_key
   by_tests true true asks = refl

@@ -1,6 +1,6 @@
 -- What acceptance grants (document 01, 'Keys', 'On acceptance'): a table in the document's order, and the first row that fits is given.
 -- Assumes nothing.
-use Rattle.std.specs.Prelude.{ℕ, Bool, true, false, List, [], ◌∷◌, eqb}
+use Rattle.std.specs.Prelude.{ℕ, Bool, true, false, List, [], ◌∷◌, eqb, None, Option, Some}
 use Rattle.ground.specs.Choice.{both, fails, pick}
 use Rattle.ground.specs.First.{first_that}
 use Rattle.calendar.specs.declared.Date.{Date}
@@ -9,8 +9,6 @@ use Rattle.keys.specs.declared.KeyMaker.{KeyMaker}
 use Rattle.customer.specs.declared.Customer.{Customer}
 use Rattle.changeover.specs.Held.{changing}
 use Rattle.changeover.specs.Changes.{with_working, without_previous}
-use Rattle.changeover.specs.declared.Key.{Key}
-use Rattle.changeover.specs.declared.Key.TheVariants.{Missing, Is}
 use Rattle.acceptance.specs.declared.Granted.{Granted}
 
 -- ---- the table
@@ -79,10 +77,10 @@ customer_after Unchanged c maker clock today = c
 customer_after KeyMade c maker clock today = with_working c (new_key maker clock) today
 customer_after PreviousDropped c maker clock today = without_previous c
 
-abbrev enclosed_by : Enclosed → Customer → KeyMaker → (clock : ℕ) → Key
-enclosed_by NoKey c maker clock = Missing
-enclosed_by CurrentKey c maker clock = Is c.working.key
-enclosed_by NewKey c maker clock = Is (new_key maker clock)
+abbrev enclosed_by : Enclosed → Customer → KeyMaker → (clock : ℕ) → Option ℕ
+enclosed_by NoKey c maker clock = None
+enclosed_by CurrentKey c maker clock = Some c.working.key
+enclosed_by NewKey c maker clock = Some (new_key maker clock)
 
 -- how many keys were made
 abbrev made_by : Effect → ℕ
@@ -117,7 +115,7 @@ asked request = pick (eqb request 0) 0 (pick (eqb request 1) 1 2)
 
 -- what no row gives: the code 0. A row always fits, since each code that is granted is the table's (`grant_code`)
 abbrev pub nothing_granted : Customer → KeyMaker → Granted
-nothing_granted c maker = record { code = 0; customer = c; enclosed = Missing; made = 0; seed = maker.seed }
+nothing_granted c maker = record { code = 0; customer = c; enclosed = None; made = 0; seed = maker.seed }
 
 -- the working generation of the message is the current one, or else the previous one
 unfoldable pub granted_by : Customer → KeyMaker → (clock : ℕ) (today : Date) (generation request : ℕ) → Granted

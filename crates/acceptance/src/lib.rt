@@ -13,7 +13,7 @@ ghost use Rattle.acceptance.specs.Steps.{granted, under_previous, new_key, under
 pub struct Granted {
     pub code: u32,
     pub customer: customer::Customer,
-    pub enclosed: changeover::Key,
+    pub enclosed: Option<u64>,
     pub made: u32,
     pub seed: u64,
 }
@@ -173,7 +173,7 @@ pub fn with_stamp(
 }
 
 // The answer where no key was made.
-fn without_key(code: u32, c: customer::Customer, enclosed: changeover::Key, seed: u64) -> Granted
+fn without_key(code: u32, c: customer::Customer, enclosed: Option<u64>, seed: u64) -> Granted
     ensures { result ≡ granted code c enclosed 0 seed }
 {
     Granted {
@@ -190,8 +190,8 @@ fn under_previous(c: customer::Customer, maker: keys::KeyMaker, request: u32) ->
     ensures { result ≡ under_previous c maker request }
 {
     let working = c.working;
-    let current = changeover::Key::Is(working.key);
-    let none = changeover::Key::Missing;
+    let current = Some(working.key);
+    let none = None;
     if request == 0 {
         return without_key(1002, c, current, maker.seed);
     }
@@ -213,7 +213,7 @@ fn new_key(
     let mut seed = maker.seed;
     let key = keys::take_key(maker.key, &mut seed, clock);
     let changed = changeover::with_working(c, key, today);
-    let enclosed = changeover::Key::Is(key);
+    let enclosed = Some(key);
     Granted {
         code: 1003,
         customer: changed,
@@ -233,7 +233,7 @@ fn under_current(
 ) -> Granted
     ensures { result ≡ under_current c maker clock today request }
 {
-    let none = changeover::Key::Missing;
+    let none = None;
     if request == 0 {
         return without_key(1001, c, none, maker.seed);
     }

@@ -1,4 +1,5 @@
 -- An answer made of what the calls give is the definition's.
+use Rattle.std.specs.Prelude.{None, Option}
 use Prim.Native.Nat.{ℕ}
 use mathlib.Core.Path.{◌≡◌, refl}
 use mathlib.Core.Bool.{Bool, true, false}
@@ -11,8 +12,6 @@ use Rattle.ground.proofs.Bools.{picked}
 use Rattle.customer.specs.declared.Customer.{Customer}
 use Rattle.customer.specs.declared.Settings.{Settings}
 use Rattle.changeover.specs.Held.{held_key}
-use Rattle.changeover.specs.declared.Key.{Key}
-use Rattle.changeover.specs.declared.Key.TheVariants.{Missing}
 use Rattle.table.specs.Table.{Table}
 use Rattle.table.specs.Named.{named}
 use Rattle.message.specs.Layout.{field_text}
@@ -40,14 +39,14 @@ module _ (t : Table) (o : Opening) (pte : Bool) {s : Settings} where
         software = s.software;
         message = replicate 161 0;
         closing = replicate 161 0;
-        working = Missing;
-        transport = Missing;
-        enclosed = Missing;
+        working = None;
+        transport = None;
+        enclosed = None;
       } ≡ bare_answer t o pte code field m
   unfolding bare_answer
   bare_made code field m f e = rw (f, e)
 
-  pub full_made : (out : Outcome) (m closing : List ℕ) {c : Customer} {wg tg : ℕ} {w k : Key} {v : Contents}
+  pub full_made : (out : Outcome) (m closing : List ℕ) {c : Customer} {wg tg : ℕ} {w k : Option ℕ} {v : Contents}
       → s ≡ t.settings → c ≡ named t (sender_of m)
       → wg ≡ working_generation_of m → w ≡ held_key c.working wg → tg ≡ transport_generation_of m → k ≡ held_key c.transport tg
       → v ≡ contents_as []

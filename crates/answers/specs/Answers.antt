@@ -1,10 +1,9 @@
 -- Which reply answers what (document 01, 'Replies'): the form, the keys and the texts that go into it.
 -- Assumes nothing.
-use Rattle.std.specs.Prelude.{ℕ, Bool, true, false, List, [], replicate}
+use Rattle.std.specs.Prelude.{ℕ, Bool, true, false, List, [], replicate, None}
 use Rattle.ground.specs.Choice.{pick}
 use Rattle.customer.specs.declared.Customer.{Customer}
 use Rattle.changeover.specs.Held.{held_key}
-use Rattle.changeover.specs.declared.Key.TheVariants.{Missing}
 use Rattle.table.specs.Table.{Table}
 use Rattle.table.specs.Named.{named}
 use Rattle.message.specs.Layout.{field_text}
@@ -29,9 +28,9 @@ bare_answer t o pte code field m =
       software = t.settings.software;
       message = replicate 161 0;
       closing = replicate 161 0;
-      working = Missing;
-      transport = Missing;
-      enclosed = Missing;
+      working = None;
+      transport = None;
+      enclosed = None;
     }
 
 -- the full form, on the table as the verdict leaves it: `m` is the message (a frame's SUO), `closing` the one that ended it (the VAR). The

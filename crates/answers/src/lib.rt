@@ -33,9 +33,9 @@ pub fn bare_answer(
         software,
         message: [0; 161],
         closing: [0; 161],
-        working: changeover::Key::Missing,
-        transport: changeover::Key::Missing,
-        enclosed: changeover::Key::Missing,
+        working: None,
+        transport: None,
+        enclosed: None,
     }
 }
 

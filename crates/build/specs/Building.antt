@@ -1,14 +1,12 @@
 -- The calls that build (document 02, R-6): what each gives, and when it refuses.
 -- Assumes nothing.
-use Rattle.std.specs.Prelude.{ℕ, Bool, true, List, [], ◌∷◌, eqb, ltb, replicate}
+use Rattle.std.specs.Prelude.{ℕ, Bool, true, List, [], ◌∷◌, eqb, ltb, replicate, None, Option, Some}
 use Rattle.ground.specs.Choice.{either, fails, pick}
 use Rattle.text.specs.Characters.{blank}
 use Rattle.keys.specs.Maker.{made_of}
 use Rattle.keys.specs.declared.KeyMaker.{KeyMaker}
 use Rattle.des.specs.Des.{enciphered}
 use Rattle.digest.specs.Running.{begun, alike, took_bytes, ended, answered}
-use Rattle.digest.specs.declared.Answer.{Answer}
-use Rattle.digest.specs.declared.Answer.TheVariants.{NoCharacters, Is}
 use Rattle.message.specs.Order.{first_failing}
 use Rattle.message.specs.Rules.{form_of, form_checks}
 use Rattle.message.specs.Fields.{method_of}
@@ -96,9 +94,9 @@ record_added b r =
 -- ---- a VAR
 
 -- without any character left the digest is the start vector, zeros
-unfoldable pub digest_number : Answer → ℕ
-digest_number NoCharacters = 0
-digest_number (Is x) = x
+unfoldable pub digest_number : Option ℕ → ℕ
+digest_number None = 0
+digest_number (Some x) = x
 
 unfoldable pub var_made : Batch → (request : ℕ) → List ℕ
 var_made b request =

@@ -378,12 +378,12 @@ pub fn add_record(b: Batch, characters: &[u8]) -> Batch
 // ---- a VAR
 
 // Without any character left it is zeros.
-fn digest_number(a: digest::Answer) -> u64
+fn digest_number(a: Option<u64>) -> u64
     ensures { result ≡ digest_number a }
 {
     match a {
-        digest::Answer::NoCharacters => 0,
-        digest::Answer::Is(x) => x,
+        None => 0,
+        Some(x) => x,
     }
 }
 

@@ -38,7 +38,7 @@ fn is_after(last: [u8; 15], day: u32, time: u32) -> bool {
 }
 
 fn number(digits: &[u8]) -> u32 {
-    let cli_words::Number::Is(n) = cli_words::digits(digits, 6, 6) else {
+    let Some(n) = cli_words::digits(digits, 6, 6) else {
         return 0;
     };
     n

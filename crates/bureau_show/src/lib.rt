@@ -9,8 +9,8 @@ use std::io;
 
 // ---- the keys
 
-fn before(rt: &HostRuntime, b: desk::Before) -> io::Result<()> {
-    let desk::Before::Was(k) = b else {
+fn before(rt: &HostRuntime, b: Option<desk::Numbered>) -> io::Result<()> {
+    let Some(k) = b else {
         return Ok(());
     };
     say::out(rt, b", previous ")?;

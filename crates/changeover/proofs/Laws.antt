@@ -1,5 +1,6 @@
 -- Keys stay sound when one is changed: what is asked of the new ones follows from what is known of the old ones and of today.
 -- Assumes nothing.
+use Rattle.std.specs.Prelude.{None, Option, Some}
 use mathlib.Core.Path.{◌≡◌, refl, sym, ap, ◌∙◌}
 use mathlib.Core.Bool.{Bool, true, false}
 use Prim.Native.Nat.{ℕ, ◌+◌, ◌≤◌}
@@ -17,14 +18,11 @@ use Rattle.keys.specs.Parity.{odd_parity}
 use Rattle.keys.specs.Keys.{next_generation}
 use Rattle.keys.proofs.Laws.{next_generation-le}
 use Rattle.customer.specs.Customer.{sound_previous, sound_keys, sound_customer}
-use Rattle.customer.specs.declared.Previous.{Previous}
-use Rattle.customer.specs.declared.Previous.TheVariants.{Nothing, Held}
 use Rattle.customer.specs.declared.KeyPair.{KeyPair}
 use Rattle.customer.specs.declared.Customer.{Customer}
 use Rattle.changeover.specs.Held.{previous_named, held_key, previous_good, good_for}
 use Rattle.changeover.specs.Changes.{changed, with_keys, with_transport, with_working, without_previous}
-use Rattle.changeover.specs.declared.Key.{Key}
-use Rattle.changeover.specs.declared.Key.TheVariants.{Missing, Is}
+use Rattle.customer.specs.declared.Changeover.{Changeover}
 
 -- ---- the parts of sound keys
 
@@ -50,7 +48,7 @@ changed_until old generation key today last =
       generation = generation;
       key = key;
       previous =
-          Held
+          Some
           (record {
             generation = old.generation;
             key = old.key;
@@ -119,36 +117,36 @@ module _ (c : Customer) (s : sound_customer c ≡ true) where
 -- ---- what is held
 
 -- one key and then others: what is named is odd where each is
-pick_odd : (t : Bool) (y x : ℕ) (other : Key) → odd_parity y ≡ true → (other ≡ Is x → odd_parity x ≡ true)
-    → pick t (Is y) other ≡ Is x → odd_parity x ≡ true
+pick_odd : (t : Bool) (y x : ℕ) (other : Option ℕ) → odd_parity y ≡ true → (other ≡ Some x → odd_parity x ≡ true)
+    → pick t (Some y) other ≡ Some x → odd_parity x ≡ true
 unfolding pick
 pick_odd true y x other o f e = let h : x ≡ y = cc in rw h o
 pick_odd false y x other o f e = f e
 
-previous_odd : (n : ℕ) (p : Previous) (g x : ℕ) → sound_previous n p ≡ true → previous_named p g ≡ Is x → odd_parity x ≡ true
+previous_odd : (n : ℕ) (p : Option Changeover) (g x : ℕ) → sound_previous n p ≡ true → previous_named p g ≡ Some x → odd_parity x ≡ true
 unfolding sound_previous previous_named
-previous_odd n Nothing g x s e = cc
-previous_odd n (Held p) g x s e =
-    pick_odd (eqb p.generation g) p.key x Missing (left _ _ (right _ _ (right _ _ s))) (λ m. cc) e
+previous_odd n None g x s e = cc
+previous_odd n (Some p) g x s e =
+    pick_odd (eqb p.generation g) p.key x None (left _ _ (right _ _ (right _ _ s))) (λ m. cc) e
 
-pub held_odd : (k : KeyPair) (g x : ℕ) → sound_keys k ≡ true → held_key k g ≡ Is x → odd_parity x ≡ true
+pub held_odd : (k : KeyPair) (g x : ℕ) → sound_keys k ≡ true → held_key k g ≡ Some x → odd_parity x ≡ true
 unfolding held_key
 held_odd k g x s e =
     pick_odd (eqb k.generation g) k.key x _ (keys_odd k s) (previous_odd _ k.previous g x (keys_previous k s)) e
 
 -- one key, or what else is good: each is held
-pick_held : (t b : Bool) (y : ℕ) (other : Key) → (b ≡ true → (x : ℕ) × (other ≡ Is x)) → either t b ≡ true
-    → (x : ℕ) × (pick t (Is y) other ≡ Is x)
+pick_held : (t b : Bool) (y : ℕ) (other : Option ℕ) → (b ≡ true → (x : ℕ) × (other ≡ Some x)) → either t b ≡ true
+    → (x : ℕ) × (pick t (Some y) other ≡ Some x)
 unfolding either pick
 pick_held true b y other f e = (y, refl)
 pick_held false b y other f e = f e
 
-previous_held : (p : Previous) (g : ℕ) (d : Date) → previous_good p g d ≡ true → (x : ℕ) × (previous_named p g ≡ Is x)
+previous_held : (p : Option Changeover) (g : ℕ) (d : Date) → previous_good p g d ≡ true → (x : ℕ) × (previous_named p g ≡ Some x)
 unfolding previous_good previous_named
-previous_held Nothing g d e = absurd (let z : ◌≡◌ {A = ℕ} 0 1 = cc in omega arith)
-previous_held (Held p) g d e = (p.key, picks _ _ _ (left _ _ e))
+previous_held None g d e = absurd (let z : ◌≡◌ {A = ℕ} 0 1 = cc in omega arith)
+previous_held (Some p) g d e = (p.key, picks _ _ _ (left _ _ e))
 
-pub good_held : (k : KeyPair) (g : ℕ) (d : Date) → good_for k g d ≡ true → (x : ℕ) × (held_key k g ≡ Is x)
+pub good_held : (k : KeyPair) (g : ℕ) (d : Date) → good_for k g d ≡ true → (x : ℕ) × (held_key k g ≡ Some x)
 unfolding good_for held_key
 good_held k g d e = pick_held _ _ _ _ (previous_held k.previous g d) e
 
@@ -163,11 +161,11 @@ next_differs g e = by (ltb g 9) refl
     by false h = omega (arith, sym (skips (ltb g 9) (g + 1) 1 h) ∙ e, ltb-false g 9 h)
 
 pub after_change : (old : KeyPair) (key : ℕ) (today : Date) (days : CalendarDays)
-    → held_key (changed old (next_generation old.generation) key today days) old.generation ≡ Is old.key
+    → held_key (changed old (next_generation old.generation) key today days) old.generation ≡ Some old.key
 unfolding changed held_key previous_named
 after_change old key today days =
     let g = old.generation in
-    skips _ _ _ (ne_eqb _ _ (next_differs g)) ∙ picks (eqb g g) (Is old.key) Missing (eq-eqb g g refl)
+    skips _ _ _ (ne_eqb _ _ (next_differs g)) ∙ picks (eqb g g) (Some old.key) None (eq-eqb g g refl)
 
 -- ---- what is good after a change, and after the previous key was dropped (document 02, R-3)
 

@@ -1,11 +1,10 @@
 -- What a new key makes of a customer's keys (document 01, 'Keys').
 -- Assumes nothing.
-use Rattle.std.specs.Prelude.{ℕ}
+use Rattle.std.specs.Prelude.{ℕ, None, Some}
 use Rattle.calendar.specs.Dates.{later}
 use Rattle.calendar.specs.declared.CalendarDays.{CalendarDays}
 use Rattle.calendar.specs.declared.Date.{Date}
 use Rattle.keys.specs.Keys.{next_generation}
-use Rattle.customer.specs.declared.Previous.TheVariants.{Nothing, Held}
 use Rattle.customer.specs.declared.KeyPair.{KeyPair}
 use Rattle.customer.specs.declared.Customer.{Customer}
 
@@ -16,7 +15,7 @@ changed old generation key today days =
       generation = generation;
       key = key;
       previous =
-          Held
+          Some
           (record {
             generation = old.generation;
             key = old.key;
@@ -55,4 +54,4 @@ with_working c key today =
 unfoldable pub without_previous : Customer → Customer
 without_previous c =
     with_keys c c.transport
-    (record { generation = c.working.generation; key = c.working.key; previous = Nothing })
+    (record { generation = c.working.generation; key = c.working.key; previous = None })

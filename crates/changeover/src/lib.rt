@@ -2,39 +2,31 @@
 
 #![tactic(auto)]
 
-ghost use Rattle.std.specs.Prelude.{◌≡◌};
-ghost use Rattle.customer.specs.declared.Previous.TheVariants.{Held};
+ghost use Rattle.std.specs.Prelude.{◌≡◌, Some};
 ghost use Rattle.changeover.specs.Held.{previous_named, held_key, previous_good, good_for, changing};
 ghost use Rattle.changeover.specs.Changes.{changed, with_keys, with_transport, with_working, without_previous};
 
-// A key, or that none of that generation is held.
-#[derive(Clone, Copy)]
-pub enum Key {
-    Missing,
-    Is(u64),
-}
-
 // The previous key, where it has that generation.
-fn named(p: customer::Previous, generation: u32) -> Key
+fn named(p: Option<customer::Changeover>, generation: u32) -> Option<u64>
     ensures { result ≡ previous_named p generation }
 {
     match p {
-        customer::Previous::Nothing => Key::Missing,
-        customer::Previous::Held(c) => {
+        None => None,
+        Some(c) => {
             if c.generation == generation {
-                return Key::Is(c.key);
+                return Some(c.key);
             }
-            Key::Missing
+            None
         }
     }
 }
 
 // The key of that generation, if it is held, whatever the date.
-pub fn held(k: customer::KeyPair, generation: u32) -> Key
+pub fn held(k: customer::KeyPair, generation: u32) -> Option<u64>
     ensures { result ≡ held_key k generation }
 {
     if k.generation == generation {
-        return Key::Is(k.key);
+        return Some(k.key);
     }
     let p = k.previous;
     named(p, generation)
@@ -43,7 +35,7 @@ pub fn held(k: customer::KeyPair, generation: u32) -> Key
 // Whether a key that is held has that generation, and the date is not past its last day. On which day its changeover began doesn't count:
 // a file that was made before it may arrive in it.
 fn is_up_to_last(c: customer::Changeover, generation: u32, date: calendar::Date) -> bool
-    ensures { result ≡ previous_good (Held c) generation date }
+    ensures { result ≡ previous_good (Some c) generation date }
 {
     if c.generation != generation {
         return false;
@@ -53,12 +45,12 @@ fn is_up_to_last(c: customer::Changeover, generation: u32, date: calendar::Date)
 }
 
 // The same of what may be held.
-fn is_previous_good(p: customer::Previous, generation: u32, date: calendar::Date) -> bool
+fn is_previous_good(p: Option<customer::Changeover>, generation: u32, date: calendar::Date) -> bool
     ensures { result ≡ previous_good p generation date }
 {
     match p {
-        customer::Previous::Nothing => false,
-        customer::Previous::Held(c) => is_up_to_last(c, generation, date),
+        None => false,
+        Some(c) => is_up_to_last(c, generation, date),
     }
 }
 
@@ -74,12 +66,12 @@ pub fn is_good_for(k: customer::KeyPair, generation: u32, date: calendar::Date) 
 }
 
 // Whether a previous key is held whose last day isn't past.
-pub fn is_changing(p: customer::Previous, today: calendar::Date) -> bool
+pub fn is_changing(p: Option<customer::Changeover>, today: calendar::Date) -> bool
     ensures { result ≡ changing p today }
 {
     match p {
-        customer::Previous::Nothing => false,
-        customer::Previous::Held(c) => {
+        None => false,
+        Some(c) => {
             let last = c.last;
             !last.before(today)
         }
@@ -103,7 +95,7 @@ pub fn change(
         first: today,
         last: last,
     };
-    let previous = customer::Previous::Held(before);
+    let previous = Some(before);
     customer::KeyPair {
         generation: generation,
         key: key,
@@ -171,7 +163,7 @@ pub fn without_previous(c: customer::Customer) -> customer::Customer
 {
     let transport = c.transport;
     let kept = c.working;
-    let previous = customer::Previous::Nothing;
+    let previous = None;
     let working = customer::KeyPair {
         generation: kept.generation,
         key: kept.key,

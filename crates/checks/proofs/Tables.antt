@@ -1,5 +1,6 @@
 -- What is read of a table by value: its holidays are those that are lent, and past the last customer stands nobody.
 -- Assumes nothing.
+use Rattle.std.specs.Prelude.{None, Option, Some}
 use mathlib.Core.Path.{◌≡◌, refl, sym, ap, ap₂, ◌∙◌}
 use mathlib.Core.Bool.{Bool, true, false}
 use mathlib.Core.List.{List, ◌++◌}
@@ -16,8 +17,6 @@ use Rattle.table.specs.Written.{table_size, holidays_start}
 use Rattle.table.specs.Decode.{table_of, holiday_count}
 use Rattle.table.specs.Stored.{holidays_of}
 use Rattle.table.specs.declared.Holidays.{Holidays}
-use Rattle.table.specs.declared.Found.{Found}
-use Rattle.table.specs.declared.Found.TheVariants.{At, Unknown}
 use Rattle.table.proofs.Decode.{table_sized, table_other}
 use Rattle.table.proofs.Turns.{dates_length}
 
@@ -61,12 +60,12 @@ module _ (b : List ℕ) (h : Holidays) (e : h ≡ holidays_of (table_of b)) wher
   lent_count = ap (λ (x : Holidays). x.count) e ∙ ap length lent_dates
 
 -- the customer who is found, and nobody
-module _ (t : Table) (who : List ℕ) (f : Found) (r : Customer) (p : f ≡ place_of t who) where
-  pub found_at : (i : ℕ) → f ≡ At i → r ≡ customer_in t i → r ≡ named t who
+module _ (t : Table) (who : List ℕ) (f : Option ℕ) (r : Customer) (p : f ≡ place_of t who) where
+  pub found_at : (i : ℕ) → f ≡ Some i → r ≡ customer_in t i → r ≡ named t who
   unfolding named customer_at
   found_at i q e = e ∙ sym (ap (customer_at t) (sym p ∙ q))
 
-  pub found_none : (n : ℕ) → f ≡ Unknown → n ≡ length t.customers → r ≡ customer_in t n → r ≡ named t who
+  pub found_none : (n : ℕ) → f ≡ None → n ≡ length t.customers → r ≡ customer_in t n → r ≡ named t who
   unfolding named customer_at customer_in
   found_none n q k e =
       e ∙ get_or-eq_default t.customers nobody {n = n} (omega arith) ∙ sym (ap (customer_at t) (sym p ∙ q))

@@ -1,6 +1,6 @@
 -- The order of checks (document 01, 'Order of checks'): each order is one list, and the first failing check gives the code.
 -- Assumes nothing.
-use Rattle.std.specs.Prelude.{ℕ, ◌-◌, ◌/◌, ◌%◌, ◌^◌, Bool, true, false, List, [], ◌∷◌, ◌++◌, eqb, ltb, leb, length}
+use Rattle.std.specs.Prelude.{ℕ, ◌-◌, ◌/◌, ◌%◌, ◌^◌, Bool, true, false, List, [], ◌∷◌, ◌++◌, eqb, ltb, leb, length, None, Option, Some}
 use Rattle.ground.specs.Choice.{both, either, fails}
 use Rattle.ground.specs.Lists.{same}
 use Rattle.calendar.specs.Dates.{is_before}
@@ -8,12 +8,8 @@ use Rattle.calendar.specs.Banking.{too_old}
 use Rattle.calendar.specs.declared.Date.{Date}
 use Rattle.keys.specs.Parity.{odd_parity}
 use Rattle.digest.specs.Mac.{checksum_of}
-use Rattle.digest.specs.declared.Answer.{Answer}
-use Rattle.digest.specs.declared.Answer.TheVariants.{NoCharacters, Is}
 use Rattle.customer.specs.declared.Customer.{Customer}
 use Rattle.changeover.specs.Held.{held_key, good_for}
-use Rattle.changeover.specs.declared.Key.{Key}
-use Rattle.changeover.specs.declared.Key.TheVariants.{Missing, Is as Key-as-Is}
 use Rattle.acceptance.specs.Stamps.{holds_stamp, live_stamps, once_used}
 use Rattle.table.specs.Table.{Table, place_of, is_unknown}
 use Rattle.table.specs.Named.{named}
@@ -41,22 +37,22 @@ unfoldable pub type_allowed : (types data_type : ℕ) → Bool
 type_allowed types n = both (ltb 0 n) (eqb (types / 2 ^ (n - 1) % 2) 1)
 
 -- the checksum of a message under a working key is not the one it carries; without a key none is
-unfoldable pub checksum_differs : Key → List ℕ → Bool
-checksum_differs Missing m = true
-checksum_differs (Key-as-Is key) m = fails (eqb (checksum_of key m) (checksum_field_of m))
+unfoldable pub checksum_differs : Option ℕ → List ℕ → Bool
+checksum_differs None m = true
+checksum_differs (Some key) m = fails (eqb (checksum_of key m) (checksum_field_of m))
 
 -- the digest is not the one that the VAR carries, or no characters are left
-unfoldable pub digest_differs : Answer → ℕ → Bool
-digest_differs NoCharacters d = true
-digest_differs (Is x) d = fails (eqb x d)
+unfoldable pub digest_differs : Option ℕ → ℕ → Bool
+digest_differs None d = true
+digest_differs (Some x) d = fails (eqb x d)
 
-unfoldable pub is_missing : Key → Bool
-is_missing Missing = true
-is_missing (Key-as-Is k) = false
+unfoldable pub is_missing : Option ℕ → Bool
+is_missing None = true
+is_missing (Some k) = false
 
-unfoldable pub key_or0 : Key → ℕ
-key_or0 Missing = 0
-key_or0 (Key-as-Is k) = k
+unfoldable pub key_or0 : Option ℕ → ℕ
+key_or0 None = 0
+key_or0 (Some k) = k
 
 -- ---- the checks that both orders share
 

@@ -21,8 +21,8 @@ ghost use Rattle.checks.specs.Checks.{frame_checks};
 pub struct Frame {
     pub suo: message::Collected,
     pub var: message::Collected,
-    pub once: changeover::Key,
-    pub digest: digest::Answer,
+    pub once: Option<u64>,
+    pub digest: Option<u64>,
 }
 
 // When a message is judged: today, the data type and the clock value given at opening, and the keys made in this file so far.
@@ -68,17 +68,17 @@ pub fn customer_of(t: &[u8], m: [u8; 161]) -> customer::Customer
 {
     let place = table::find(t, message::sender(m));
     match place {
-        table::Found::At(i) => table::load(t, i),
-        table::Found::Unknown => table::load(t, table::customer_count(t) as usize),
+        Some(i) => table::load(t, i),
+        None => table::load(t, table::customer_count(t) as usize),
     }
 }
 
-fn is_no_place(place: table::Found) -> bool
+fn is_no_place(place: Option<usize>) -> bool
     ensures { result ≡ is_unknown place }
 {
     match place {
-        table::Found::At(_) => false,
-        table::Found::Unknown => true,
+        Some(_) => false,
+        None => true,
     }
 }
 
@@ -103,36 +103,36 @@ fn is_type_refused(types: u32, n: u32) -> bool
     (types >> (n - 1)) % 2 != 1
 }
 
-fn checksum_differs(k: changeover::Key, m: [u8; 161]) -> bool
+fn checksum_differs(k: Option<u64>, m: [u8; 161]) -> bool
     ensures { result ≡ checksum_differs k m }
 {
     match k {
-        changeover::Key::Missing => true,
-        changeover::Key::Is(key) => digest::checksum(key, &m) != message::checksum_field(m),
+        None => true,
+        Some(key) => digest::checksum(key, &m) != message::checksum_field(m),
     }
 }
 
-fn digest_differs(a: digest::Answer, d: u64) -> bool
+fn digest_differs(a: Option<u64>, d: u64) -> bool
     ensures { result ≡ digest_differs a d }
 {
     match a {
-        digest::Answer::NoCharacters => true,
-        digest::Answer::Is(x) => x != d,
+        None => true,
+        Some(x) => x != d,
     }
 }
 
-pub fn key_or_0(k: changeover::Key) -> u64
+pub fn key_or_0(k: Option<u64>) -> u64
     ensures { result ≡ key_or0 k }
 {
     match k {
-        changeover::Key::Missing => 0,
-        changeover::Key::Is(key) => key,
+        None => 0,
+        Some(key) => key,
     }
 }
 
 // Whether there is no good transport key: none was held at the SUO's end, or its generation is not good for the stamp's date.
 fn is_key_refused(
-    once: changeover::Key,
+    once: Option<u64>,
     k: customer::KeyPair,
     generation: u32,
     date: calendar::Date,
@@ -140,8 +140,8 @@ fn is_key_refused(
     ensures { result ≡ either (is_missing once) (fails (good_for k generation date)) }
 {
     match once {
-        changeover::Key::Missing => true,
-        changeover::Key::Is(_) => !changeover::is_good_for(k, generation, date),
+        None => true,
+        Some(_) => !changeover::is_good_for(k, generation, date),
     }
 }
 

@@ -7,7 +7,6 @@ use cli_terminal::options::Words;
 use cli_terminal::program::Program;
 use cli_terminal::status::{Status, Told};
 use cli_terminal::{options, say};
-use cli_words::Number;
 use std::fs::File;
 use std::os::fd::AsRawFd;
 
@@ -77,13 +76,13 @@ pub fn is_in_utf8(rt: &HostRuntime, p: Program, name: &[u8], word: &[u8]) -> Res
 fn number(
     rt: &HostRuntime,
     p: Program,
-    value: Number,
+    value: Option<u32>,
     name: &[u8],
     what: &[u8],
 ) -> Result<u32, Told> {
     match value {
-        Number::Is(n) => Ok(n),
-        Number::Bad => {
+        Some(n) => Ok(n),
+        None => {
             say::expected(rt, p, name, what);
             Err(Told)
         }

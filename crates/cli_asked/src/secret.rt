@@ -5,7 +5,6 @@ ghost use Rattle.std.specs.Prelude.{◌≤◌, length};
 use cli_terminal::program::Program;
 use cli_terminal::say;
 use cli_terminal::status::Told;
-use cli_words::Block;
 use std::fs::File;
 use std::io::{IsTerminal, Read};
 
@@ -32,7 +31,7 @@ fn line<R: Read>(input: &mut R, room: &mut [u8]) -> usize
 }
 
 // A line's hex digits.
-fn line_of<R: Read>(input: &mut R, width: usize) -> Block {
+fn line_of<R: Read>(input: &mut R, width: usize) -> Option<u64> {
     let mut room = [0u8; 4096];
     let n = line(input, &mut room);
     cli_words::hex_digits(cli_words::without_cr(&room[..n]), width)
@@ -42,14 +41,14 @@ fn line_of<R: Read>(input: &mut R, width: usize) -> Block {
 fn told(
     rt: &HostRuntime,
     p: Program,
-    value: Block,
+    value: Option<u64>,
     name: &[u8],
     what: &[u8],
     source: &[u8],
 ) -> Result<u64, Told> {
     match value {
-        Block::Of(value) => Ok(value),
-        Block::Wrong => {
+        Some(value) => Ok(value),
+        None => {
             say::begin_line(rt, p);
             say::err(rt, name);
             say::err(rt, b": expected ");
@@ -88,13 +87,13 @@ fn from_input(
 fn told_of_file(
     rt: &HostRuntime,
     p: Program,
-    value: Block,
+    value: Option<u64>,
     file: &mut File,
     path: &[u8],
     name: &[u8],
     what: &[u8],
 ) -> Result<u64, Told> {
-    if let Block::Wrong = value {
+    if value.is_none() {
         if let Err(e) = file.read(&mut [0u8; 1]) {
             say::trouble(rt, p, b"can't read the file that holds a key", path, &e);
             return Err(Told);

@@ -17,7 +17,7 @@ pub struct Facts {
 // The generation of a sender's current working key; 10, which none has, where the sender is no customer.
 fn generation_in(t: &[u8], who: [u8; 25]) -> u32 {
     let place = table::find(t, who);
-    let table::Found::At(i) = place else {
+    let Some(i) = place else {
         return 10;
     };
     let c = table::load(t, i);
@@ -27,7 +27,7 @@ fn generation_in(t: &[u8], who: [u8; 25]) -> u32 {
 
 fn types_in(t: &[u8], who: [u8; 25]) -> u32 {
     let place = table::find(t, who);
-    let table::Found::At(i) = place else {
+    let Some(i) = place else {
         return 0;
     };
     let c = table::load(t, i);

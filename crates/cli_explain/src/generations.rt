@@ -14,15 +14,15 @@ fn with_keys(l: Line, before: Sheet, k: customer::KeyPair) -> Line {
     let s = sheet::with_number(before, b'g', k.generation as u64);
     let current = cli_texts::with_text(l, s, cli_texts::HELD);
     match previous {
-        customer::Previous::Nothing => current,
-        customer::Previous::Held(c) => with_previous(current, s, c),
+        None => current,
+        Some(c) => with_previous(current, s, c),
     }
 }
 
 // The generations of the kind that 1013 or 1014 is about; none where the sender is no customer.
 pub fn with_held(l: Line, s: Sheet, t: &[u8], who: [u8; 25], code: u64) -> Line {
     let place = table::find(t, who);
-    let table::Found::At(i) = place else {
+    let Some(i) = place else {
         return l;
     };
     let c = table::load(t, i);

@@ -131,9 +131,9 @@ fn set_up_with(t: &mut [u8], s: &Setting, dates: &[u32], n: usize) -> u32 {
 // ---- add
 
 // A changeover's length.
-fn length_of(rt: &HostRuntime, words: &Words, i: usize) -> Result<refusals::Length, Told> {
+fn length_of(rt: &HostRuntime, words: &Words, i: usize) -> Result<Option<calendar::CalendarDays>, Told> {
     if words.count() <= i {
-        return Ok(refusals::Length::LeftOut);
+        return Ok(None);
     }
     let days = cli_asked::digits(
         rt,
@@ -144,7 +144,7 @@ fn length_of(rt: &HostRuntime, words: &Words, i: usize) -> Result<refusals::Leng
         b"LENGTH",
         b"days, 1 to 60",
     )?;
-    Ok(refusals::Length::Given(calendar::CalendarDays(days)))
+    Ok(Some(calendar::CalendarDays(days)))
 }
 
 pub fn add(rt: &HostRuntime, words: &Words) -> Result<Status, Told> {

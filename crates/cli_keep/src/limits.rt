@@ -47,21 +47,21 @@ pub fn answer_add(rt: &HostRuntime, a: &table_calls::Adding) -> Result<Status, T
 
 fn answer_pair(rt: &HostRuntime, kind: &[u8], k: &customer::KeyPair) -> Result<Status, Told> {
     match k.previous {
-        customer::Previous::Held(c) => cli_days::answer_changeover(rt, kind, c.last),
-        customer::Previous::Nothing => say::answer(rt, Program::Lentilpot, 12),
+        Some(c) => cli_days::answer_changeover(rt, kind, c.last),
+        None => say::answer(rt, Program::Lentilpot, 12),
     }
 }
 
 pub fn answer_transport(rt: &HostRuntime, t: &[u8], who: [u8; 25]) -> Result<Status, Told> {
     match table::find(t, who) {
-        table::Found::At(i) => answer_pair(rt, b"transport", &table::load(t, i).transport),
-        table::Found::Unknown => say::answer(rt, Program::Lentilpot, 12),
+        Some(i) => answer_pair(rt, b"transport", &table::load(t, i).transport),
+        None => say::answer(rt, Program::Lentilpot, 12),
     }
 }
 
 pub fn answer_working(rt: &HostRuntime, t: &[u8], who: [u8; 25]) -> Result<Status, Told> {
     match table::find(t, who) {
-        table::Found::At(i) => answer_pair(rt, b"working", &table::load(t, i).working),
-        table::Found::Unknown => say::answer(rt, Program::Lentilpot, 12),
+        Some(i) => answer_pair(rt, b"working", &table::load(t, i).working),
+        None => say::answer(rt, Program::Lentilpot, 12),
     }
 }

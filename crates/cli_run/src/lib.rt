@@ -53,7 +53,7 @@ pub fn read(file: &[u8]) -> Option<Run> {
     if file.len() < 28 || file[10] != b' ' || file[27] != b'\n' {
         return None;
     }
-    let cli_words::Number::Is(process) = cli_words::digits(&file[0..10], 10, 10) else {
+    let Some(process) = cli_words::digits(&file[0..10], 10, 10) else {
         return None;
     };
     if process == 0 {

@@ -100,8 +100,8 @@ fn days(rt: &HostRuntime, c: &customer::Changeover, today: calendar::Date) -> io
     Ok(())
 }
 
-fn previous(rt: &HostRuntime, p: customer::Previous, today: calendar::Date) -> io::Result<()> {
-    let customer::Previous::Held(c) = p else {
+fn previous(rt: &HostRuntime, p: Option<customer::Changeover>, today: calendar::Date) -> io::Result<()> {
+    let Some(c) = p else {
         return Ok(());
     };
     say::out(rt, b", previous ")?;
@@ -192,7 +192,7 @@ fn day_and_customer(rt: &HostRuntime, t: &[u8], i: usize) -> io::Result<()> {
 // The bank's day and one customer.
 fn one(rt: &HostRuntime, t: &[u8], who: [u8; 25]) -> Result<Status, Told> {
     match table::find(t, who) {
-        table::Found::At(i) => shown(rt, day_and_customer(rt, t, i)),
+        Some(i) => shown(rt, day_and_customer(rt, t, i)),
         _ => say::answer(rt, Program::Lentilpot, 7),
     }
 }

@@ -1,5 +1,6 @@
 -- A type's text has one digit or two: each byte is looked up by one test over all bytes, and no other length is listed.
 -- Assumes nothing.
+use Rattle.std.specs.Prelude.{None, Some}
 use mathlib.Core.Path.{◌≡◌, refl, sym, ap, ◌∙◌}
 use mathlib.Core.Bool.{Bool, false}
 use mathlib.Core.List.{List, [], ◌∷◌, ◌++◌, map}
@@ -17,7 +18,6 @@ use Rattle.ground.proofs.Choices.{skips, decides, fails_left}
 use Rattle.ground.proofs.Table.{at}
 use Rattle.ground.proofs.Bools.{both_false}
 use Rattle.text.specs.Letters.{letters}
-use Rattle.cli_words.specs.declared.Number.TheVariants.{Is, Bad}
 use Rattle.cli_words.specs.Parts.{up_to, ended_by}
 use Rattle.cli_words.specs.Forms.{type_texts, place_in, bit_of, with_bits, with_types}
 use Rattle.cli_words.proofs.Cuts.{splits_from, splits_none}
@@ -78,13 +78,13 @@ one_bit k h = ap (λ (n : ℕ). n % 2 ^ 32) (one-mul (2 ^ k)) ∙ mod-eq_of_lt (
 
 pub next_type : (set k : ℕ) (ks : List ℕ) → k < 16 → with_types set (k ∷ ks) ≡ with_types (bit_or set (2 ^ k)) ks
 unfolding with_types with_bits all
-next_type set k ks h = ap (λ (t : Bool). pick t (Is (with_bits (bit_or set (2 ^ k)) ks)) Bad) (decides _ _ (lt-ltb k 16 h))
+next_type set k ks h = ap (λ (t : Bool). pick t (Some (with_bits (bit_or set (2 ^ k)) ks)) None) (decides _ _ (lt-ltb k 16 h))
 
-pub no_type : (set k : ℕ) (ks : List ℕ) → 16 ≤ k → with_types set (k ∷ ks) ≡ Bad
+pub no_type : (set k : ℕ) (ks : List ℕ) → 16 ≤ k → with_types set (k ∷ ks) ≡ None
 unfolding with_types all
 no_type set k ks h = skips _ _ _ (fails_left _ _ (le-ltb k 16 h))
 
-pub all_types : (set : ℕ) → with_types set [] ≡ Is set
+pub all_types : (set : ℕ) → with_types set [] ≡ Some set
 unfolding with_types with_bits all pick
 all_types set = refl
 
@@ -108,10 +108,10 @@ takes_type s at r k set h e f b =
 -- the part there is none
 pub stops_at : (s : List ℕ) (at r k set : ℕ)
     → at ≤ length s → r ≡ at + length (up_to 0x2C (drop at s)) → k ≡ bit_of (take (r - at) (drop at s)) → 16 ≤ k
-    → with_types set (bits_from s at) ≡ Bad
+    → with_types set (bits_from s at) ≡ None
 stops_at s at r k set h e f b =
     ap (λ (ps : List (List ℕ)). with_types set (map bit_of ps)) (splits_from 0x2C s at r h e)
     ∙ no_type set _ (bits_from s (r + 1)) (omega arith)
 
-pub ends_at : (s : List ℕ) (at set : ℕ) → length s < at → with_types set (bits_from s at) ≡ Is set
+pub ends_at : (s : List ℕ) (at set : ℕ) → length s < at → with_types set (bits_from s at) ≡ Some set
 ends_at s at set h = ap (λ (ps : List (List ℕ)). with_types set (map bit_of ps)) (splits_none 0x2C s at h) ∙ all_types set

@@ -1,5 +1,6 @@
 -- A file of holidays, line by line: the dates kept so far and what the lines to come say make the whole.
 -- Assumes nothing.
+use Rattle.std.specs.Prelude.{None, Option, Some}
 use mathlib.Core.Path.{◌≡◌, refl, sym, ap, ap₂, subst, ◌∙◌}
 use mathlib.Core.Logic.{◌⊎◌, inl, inr}
 use mathlib.Core.Bool.{Bool, true, false}
@@ -13,8 +14,6 @@ use lib.ListN.{length, take, drop, set, replicate, length-set, take-append-drop}
 use lib.Seq.{length-take-le, take-nil, take-suc-set, drop-set-lt, drop-drop, append_snoc}
 use Rattle.ground.specs.Choice.{pick}
 use Rattle.ground.proofs.Choices.{picks, skips}
-use Rattle.cli_words.specs.declared.Number.{Number}
-use Rattle.cli_words.specs.declared.Number.TheVariants.{Is, Bad}
 use Rattle.cli_words.specs.declared.Dates.{Dates}
 use Rattle.cli_words.specs.Parts.{up_to, ended_by}
 use Rattle.cli_words.specs.Forms.{without_cr, date_of, leading, told}
@@ -26,20 +25,20 @@ empty_line [] e = refl
 empty_line (x ∷ l) e = let z : ◌≡◌ {A = ℕ} 0 1 = omega arith in cc
 
 -- what the lines from a place on say, where so many are kept already
-abbrev pub rest : List ℕ → ℕ → ℕ → List Number
+abbrev pub rest : List ℕ → ℕ → ℕ → List (Option ℕ)
 rest s at count = map date_of (take (201 - count) (ended_by 0x0A (drop at s)))
 
 -- so many dates are kept, and zeros fill the places past them
-pub record Sofar (ns left : List Number) (dates : List ℕ) (count : ℕ) : Type 0 where
+pub record Sofar (ns left : List (Option ℕ)) (dates : List ℕ) (count : ℕ) : Type 0 where
   pub kept : leading ns ≡ take count dates ++ leading left
   pub lines : length ns ≡ count + length left
   pub long : length dates ≡ 201
   pub zeros : drop count dates ≡ replicate (201 - count) 0
 
-pub none_yet : (ns : List Number) → Sofar ns ns (replicate 201 0) 0
+pub none_yet : (ns : List (Option ℕ)) → Sofar ns ns (replicate 201 0) 0
 none_yet ns = record { kept = refl; lines = omega arith; long = refl; zeros = refl }
 
-pub one_more : (ns left : List Number) (dates : List ℕ) (count n : ℕ) → count < 201 → Sofar ns (Is n ∷ left) dates count
+pub one_more : (ns left : List (Option ℕ)) (dates : List ℕ) (count n : ℕ) → count < 201 → Sofar ns (Some n ∷ left) dates count
     → Sofar ns left (set dates count n) (count + 1)
 unfolding leading
 one_more ns left dates count n h s =
@@ -64,7 +63,7 @@ alike : (g g' : Bool) (l l' c c' : ℕ) (d d' : List ℕ) → g ≡ g' → l ≡
 alike g g' l l' c c' d d' p q r s = cc
 
 module _
-    (ns left : List Number) (dates : List ℕ) (count : ℕ) (h : count ≤ 201) (s : Sofar ns left dates count) (none : leading left ≡ []) where
+    (ns left : List (Option ℕ)) (dates : List ℕ) (count : ℕ) (h : count ≤ 201) (s : Sofar ns left dates count) (none : leading left ≡ []) where
   all_kept : leading ns ≡ take count dates
   all_kept = s.kept ∙ ap (λ (d : List ℕ). take count dates ++ d) none ∙ append-nil (take count dates)
 
@@ -77,7 +76,7 @@ module _
       ∙ ap (λ (d : List ℕ). take count dates ++ d) (sym s.zeros)
       ∙ take-append-drop count dates
 
-all_good : (ns : List Number) (dates : List ℕ) (count : ℕ) → count ≤ 201 → Sofar ns [] dates count → dated true count count dates ≡ told ns
+all_good : (ns : List (Option ℕ)) (dates : List ℕ) (count : ℕ) → count ≤ 201 → Sofar ns [] dates count → dated true count count dates ≡ told ns
 unfolding leading told
 all_good ns dates count h s =
     let m : length (leading ns) ≡ count = so_many ns [] dates count h s refl in
@@ -85,14 +84,14 @@ all_good ns dates count h s =
     let g : eqb (length (leading ns)) (length ns) ≡ true = eq-eqb _ _ (m ∙ sym n) in
     sym (alike _ _ _ _ _ _ _ _ g (picks _ _ _ g ∙ n) m (in_places_lem ns [] dates count h s refl))
 
-pub one_bad : (ns left : List Number) (dates : List ℕ) (count : ℕ) → count ≤ 201 → Sofar ns (Bad ∷ left) dates count
+pub one_bad : (ns left : List (Option ℕ)) (dates : List ℕ) (count : ℕ) → count ≤ 201 → Sofar ns (None ∷ left) dates count
     → dated false (count + 1) count dates ≡ told ns
 unfolding leading told
 one_bad ns left dates count h s =
-    let m : length (leading ns) ≡ count = so_many ns (Bad ∷ left) dates count h s refl in
+    let m : length (leading ns) ≡ count = so_many ns (None ∷ left) dates count h s refl in
     let n : length ns ≡ count + (1 + length left) = omega (arith, s.lines) in
     let g : eqb (length (leading ns)) (length ns) ≡ false = ne_eqb _ _ (λ (e : length (leading ns) ≡ length ns). omega arith) in
-    sym (alike _ _ _ _ _ _ _ _ g (skips _ _ _ g ∙ ap (λ (k : ℕ). k + 1) m) m (in_places_lem ns (Bad ∷ left) dates count h s refl))
+    sym (alike _ _ _ _ _ _ _ _ g (skips _ _ _ g ∙ ap (λ (k : ℕ). k + 1) m) m (in_places_lem ns (None ∷ left) dates count h s refl))
 
 -- ---- the lines from a place on
 
@@ -108,17 +107,17 @@ no_line s at count h =
     ∙ ap (map date_of) (take-nil (201 - count))
 
 -- the line there says x
-pub looked : (ns : List Number) (dates s : List ℕ) (at r count : ℕ) (x : Number)
+pub looked : (ns : List (Option ℕ)) (dates s : List ℕ) (at r count : ℕ) (x : Option ℕ)
     → at < length s → count < 201 → r ≡ at + length (up_to 0x0A (drop at s)) → x ≡ date_of (take (r - at) (drop at s))
     → Sofar ns (rest s at count) dates count → Sofar ns (x ∷ rest s (r + 1) (count + 1)) dates count
 looked ns dates s at r count x h k e f y =
-    subst (λ (left : List Number). Sofar ns left dates count)
-    (next_line s at r count h k e ∙ ap (λ (n : Number). n ∷ rest s (r + 1) (count + 1)) (sym f)) y
+    subst (λ (left : List (Option ℕ)). Sofar ns left dates count)
+    (next_line s at r count h k e ∙ ap (λ (n : Option ℕ). n ∷ rest s (r + 1) (count + 1)) (sym f)) y
 
 -- nothing is left to look at: the file ends, or all places are taken
-pub ends : (ns : List Number) (dates s : List ℕ) (at count : ℕ) → (length s ≤ at) ⊎ (count ≡ 201) → count ≤ 201
+pub ends : (ns : List (Option ℕ)) (dates s : List ℕ) (at count : ℕ) → (length s ≤ at) ⊎ (count ≡ 201) → count ≤ 201
     → Sofar ns (rest s at count) dates count → dated true count count dates ≡ told ns
 ends ns dates s at count (inl h) k y =
-    all_good ns dates count k (subst (λ (left : List Number). Sofar ns left dates count) (no_line s at count h) y)
+    all_good ns dates count k (subst (λ (left : List (Option ℕ)). Sofar ns left dates count) (no_line s at count h) y)
 ends ns dates s at count (inr e) k y =
-    all_good ns dates count k (subst (λ (left : List Number). Sofar ns left dates count) (ap (rest s at) e) y)
+    all_good ns dates count k (subst (λ (left : List (Option ℕ)). Sofar ns left dates count) (ap (rest s at) e) y)

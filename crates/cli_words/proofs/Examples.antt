@@ -1,5 +1,6 @@
 -- Words and a file as the program is given them, and what the definitions say of each: computed.
 -- Assumes nothing.
+use Rattle.std.specs.Prelude.{None, Some}
 use mathlib.Core.Path.{◌≡◌, refl}
 use mathlib.Core.Bool.{Bool, true, false}
 use mathlib.Core.List.{List, [], ◌∷◌, ◌++◌, map}
@@ -9,7 +10,6 @@ use Rattle.ground.specs.Choice.{both, pick, between}
 use Rattle.ground.specs.Lists.{all, same}
 use Rattle.text.specs.Letters.{letters}
 use Rattle.text.specs.Numbers.{decimal_from, digit_value}
-use Rattle.cli_words.specs.declared.Number.TheVariants.{Is, Bad}
 use Rattle.cli_words.specs.declared.Dates.{Dates}
 use Rattle.cli_words.specs.Parts.{on_first, ended_by, split_at}
 use Rattle.cli_words.specs.Forms.{type_texts, place_in, with_bits, with_types, types_of}
@@ -17,13 +17,13 @@ use Rattle.cli_words.specs.Forms.{number_of, without_cr, date_of, leading, told,
 
 -- types in any order, and one twice; none; a zero before a digit, no number between commas, at the end or alone, 17
 pub types_said : map types_of (letters "1,3,16" ∷ letters "16,1,1" ∷ letters "-" ∷ [])
-    ≡ Is 0x8005 ∷ Is 0x8001 ∷ Is 0 ∷ []
+    ≡ Some 0x8005 ∷ Some 0x8001 ∷ Some 0 ∷ []
 unfolding letters ended_by on_first split_at type_texts place_in with_bits with_types types_of same all both pick
 types_said = refl
 
 pub types_refused : map types_of
     (letters "01" ∷ letters "1,,3" ∷ letters "1," ∷ letters ",1" ∷ [] ∷ letters "17" ∷ letters "0" ∷ letters "--" ∷ [])
-    ≡ Bad ∷ Bad ∷ Bad ∷ Bad ∷ Bad ∷ Bad ∷ Bad ∷ Bad ∷ []
+    ≡ None ∷ None ∷ None ∷ None ∷ None ∷ None ∷ None ∷ None ∷ []
 unfolding letters ended_by on_first split_at type_texts place_in with_bits with_types types_of same all both pick
 types_refused = refl
 

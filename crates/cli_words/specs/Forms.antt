@@ -1,42 +1,38 @@
 -- The forms of the program's words: design section 7. A word of another form is bad, and says no value.
 -- Assumes nothing.
-use Rattle.std.specs.Prelude.{ℕ, suc, ◌+◌, ◌-◌, ◌^◌, List, [], ◌∷◌, ◌++◌, map, eqb, ltb, length, take, get_or, replicate}
+use Rattle.std.specs.Prelude.{ℕ, suc, ◌+◌, ◌-◌, ◌^◌, List, [], ◌∷◌, ◌++◌, map, eqb, ltb, length, take, get_or, replicate, None, Option, Some}
 use Rattle.std.specs.Int.Bits.{bit_or}
 use Rattle.ground.specs.Choice.{both, pick, between}
 use Rattle.ground.specs.Lists.{all, same}
 use Rattle.text.specs.Characters.{digit, hex_digit, padded}
 use Rattle.text.specs.Numbers.{decimal, hex}
 use Rattle.text.specs.Letters.{letters}
-use Rattle.cli_words.specs.declared.Number.{Number}
-use Rattle.cli_words.specs.declared.Number.TheVariants.{Is, Bad}
-use Rattle.cli_words.specs.declared.Block.{Block}
-use Rattle.cli_words.specs.declared.Block.TheVariants.{Of, Wrong}
 use Rattle.cli_words.specs.declared.Dates.{Dates}
 use Rattle.cli_words.specs.Parts.{ended_by, split_at}
 
 -- low to high digits, whose number fits 32 bits
-unfoldable pub number_of : ℕ → ℕ → List ℕ → Number
+unfoldable pub number_of : ℕ → ℕ → List ℕ → Option ℕ
 number_of low high s =
     pick (both (between low high (length s)) (both (all digit s) (ltb (decimal (take 19 s)) 4294967296)))
-    (Is (decimal (take 19 s)))
-    Bad
+    (Some (decimal (take 19 s)))
+    None
 
 -- a number from least to most
-unfoldable pub in_range : ℕ → ℕ → Number → Number
-in_range least most Bad = Bad
-in_range least most (Is n) = pick (between least most n) (Is n) Bad
+unfoldable pub in_range : ℕ → ℕ → Option ℕ → Option ℕ
+in_range least most None = None
+in_range least most (Some n) = pick (between least most n) (Some n) None
 
 -- bytes a read: 1 to 65536
-unfoldable pub read_of : List ℕ → Number
+unfoldable pub read_of : List ℕ → Option ℕ
 read_of s = in_range 1 65536 (number_of 1 5 s)
 
 -- as many hex digits as the width says, of which 16 count
-unfoldable pub block_of : ℕ → List ℕ → Block
-block_of width s = pick (both (eqb (length s) width) (all hex_digit s)) (Of (hex (take 16 s))) Wrong
+unfoldable pub block_of : ℕ → List ℕ → Option ℕ
+block_of width s = pick (both (eqb (length s) width) (all hex_digit s)) (Some (hex (take 16 s))) None
 
 -- yes is 1, no is 0
-unfoldable pub choice_of : List ℕ → Number
-choice_of s = pick (same s (letters "yes")) (Is 1) (pick (same s (letters "no")) (Is 0) Bad)
+unfoldable pub choice_of : List ℕ → Option ℕ
+choice_of s = pick (same s (letters "yes")) (Some 1) (pick (same s (letters "no")) (Some 0) None)
 
 -- an identity in 17 characters, then its qualifier in 8
 unfoldable pub who_of : List ℕ → List ℕ → List ℕ
@@ -65,12 +61,12 @@ with_bits set [] = set
 with_bits set (k ∷ ks) = with_bits (bit_or set (2 ^ k)) ks
 
 -- the same where each is the bit of a type
-unfoldable pub with_types : ℕ → List ℕ → Number
-with_types set ks = pick (all (λ (k : ℕ). ltb k 16) ks) (Is (with_bits set ks)) Bad
+unfoldable pub with_types : ℕ → List ℕ → Option ℕ
+with_types set ks = pick (all (λ (k : ℕ). ltb k 16) ks) (Some (with_bits set ks)) None
 
 -- types between commas, as `1,3,16`; `-` is none
-unfoldable pub types_of : List ℕ → Number
-types_of s = pick (same s (letters "-")) (Is 0) (with_types 0 (map bit_of (split_at 0x2C s)))
+unfoldable pub types_of : List ℕ → Option ℕ
+types_of s = pick (same s (letters "-")) (Some 0) (with_types 0 (map bit_of (split_at 0x2C s)))
 
 -- ---- holidays
 
@@ -79,17 +75,17 @@ unfoldable pub without_cr : List ℕ → List ℕ
 without_cr l = pick (eqb (get_or l (length l - 1) 0) 0x0D) (take (length l - 1) l) l
 
 -- the date of a line: six digits
-unfoldable pub date_of : List ℕ → Number
+unfoldable pub date_of : List ℕ → Option ℕ
 date_of line = number_of 6 6 (without_cr line)
 
 -- the numbers before the first that is bad
-unfoldable pub leading : List Number → List ℕ
+unfoldable pub leading : List (Option ℕ) → List ℕ
 leading [] = []
-leading (Bad ∷ ns) = []
-leading (Is n ∷ ns) = n ∷ leading ns
+leading (None ∷ ns) = []
+leading (Some n ∷ ns) = n ∷ leading ns
 
 -- what the lines that are looked at say: their dates up to the first line that is none, which is then the last one looked at
-unfoldable pub told : List Number → Dates
+unfoldable pub told : List (Option ℕ) → Dates
 told ns =
     record {
       good = eqb (length (leading ns)) (length ns);

@@ -8,20 +8,6 @@ ghost use Rattle.cli_words.specs.Parts.{up_to, split_at};
 ghost use Rattle.cli_words.specs.Forms.{number_of, read_of, block_of, choice_of, who_of};
 ghost use Rattle.cli_words.specs.Forms.{bit_of, with_types, types_of, without_cr, date_of, holidays_of};
 
-// A number, or a word of another form.
-#[derive(Drop)]
-pub enum Number {
-    Is(u32),
-    Bad,
-}
-
-// A key, a clock value or a check value, or a word of another form.
-#[derive(Drop)]
-pub enum Block {
-    Of(u64),
-    Wrong,
-}
-
 // What a file of holidays says: whether each line is six digits, the number of the last line looked at, and the dates; the 201st is one too
 // many for any table, so no more are kept.
 #[derive(Drop)]
@@ -33,65 +19,65 @@ pub struct Dates {
 }
 
 // A word of `low` to `high` digits.
-pub fn digits(s: &[u8], low: usize, high: usize) -> Number
+pub fn digits(s: &[u8], low: usize, high: usize) -> Option<u32>
     ensures { result ≡ number_of low high s.now }
 {
     if s.len() < low {
-        return Number::Bad;
+        return None;
     }
     if high < s.len() {
-        return Number::Bad;
+        return None;
     }
     if !text::all_digits(s) {
-        return Number::Bad;
+        return None;
     }
     let n = text::number(s);
     if 4294967296 <= n {
-        return Number::Bad;
+        return None;
     }
-    Number::Is(n as u32)
+    Some(n as u32)
 }
 
 // Bytes a read.
-pub fn read_size(s: &[u8]) -> Number
+pub fn read_size(s: &[u8]) -> Option<u32>
     ensures { result ≡ read_of s.now }
 {
-    let Number::Is(n) = digits(s, 1, 5) else {
-        return Number::Bad;
+    let Some(n) = digits(s, 1, 5) else {
+        return None;
     };
     if n < 1 {
-        return Number::Bad;
+        return None;
     }
     if 65536 < n {
-        return Number::Bad;
+        return None;
     }
-    Number::Is(n)
+    Some(n)
 }
 
 // A word of that many hex digits.
-pub fn hex_digits(s: &[u8], width: usize) -> Block
+pub fn hex_digits(s: &[u8], width: usize) -> Option<u64>
     ensures { result ≡ block_of width s.now }
 {
     if s.len() != width {
-        return Block::Wrong;
+        return None;
     }
     if !text::all_hex_digits(s) {
-        return Block::Wrong;
+        return None;
     }
-    Block::Of(text::hex_number(s))
+    Some(text::hex_number(s))
 }
 
 // `yes` or `no`.
-pub fn choice(s: &[u8]) -> Number
+pub fn choice(s: &[u8]) -> Option<u32>
     ensures { result ≡ choice_of s.now }
 {
     if text::same_bytes(s, b"yes") {
-        return Number::Is(1);
+        return Some(1);
     }
     if text::same_bytes(s, b"no") {
-        return Number::Is(0);
+        return Some(0);
     }
-    Number::Bad
+    None
 }
 
 // Whether a name fits its field.
@@ -181,16 +167,16 @@ fn type_bit(p: &[u8]) -> u32
 }
 
 // Listed as `1,3,16`, or `-` for none.
-pub fn types(s: &[u8]) -> Number
+pub fn types(s: &[u8]) -> Option<u32>
     ensures { result ≡ types_of s.now }
 {
     if text::same_bytes(s, b"-") {
-        return Number::Is(0);
+        return Some(0);
     }
     listed(s)
 }
 
-fn listed(s: &[u8]) -> Number
+fn listed(s: &[u8]) -> Option<u32>
     ensures { result ≡ with_types 0 (map bit_of (split_at 0x2C s.now)) }
 {
     let mut set: u32 = 0;
@@ -199,12 +185,12 @@ fn listed(s: &[u8]) -> Number
         let end = part_end(s, at, b',');
         let k = type_bit(&s[at..end]);
         if 15 < k {
-            return Number::Bad;
+            return None;
         }
         set = set | (1 << k);
         at = end + 1;
     }
-    Number::Is(set)
+    Some(set)
 }
 
 // ---- holidays
@@ -223,7 +209,7 @@ pub fn without_cr(line: &[u8]) -> &[u8]
     &line[..last]
 }
 
-fn date_in(line: &[u8]) -> Number
+fn date_in(line: &[u8]) -> Option<u32>
     ensures { result ≡ date_of line.now }
 {
     digits(without_cr(line), 6, 6)
@@ -242,7 +228,7 @@ pub fn holidays(s: &[u8]) -> Dates
         }
         let end = part_end(s, at, b'\n');
         let date = date_in(&s[at..end]);
-        let Number::Is(n) = date else {
+        let Some(n) = date else {
             return Dates {
                 good: false,
                 line: (count + 1) as u32,

@@ -1,20 +1,19 @@
 -- What a customer's record may hold (document 01, 'Sizes', 'Keys', 'Order of checks'; our reading 72).
 -- Assumes nothing.
-use Rattle.std.specs.Prelude.{ℕ, zero, suc, ◌/◌, ◌%◌, ◌^◌, Bool, true, List, [], ◌∷◌, eqb, ltb, leb}
+use Rattle.std.specs.Prelude.{ℕ, zero, suc, ◌/◌, ◌%◌, ◌^◌, Bool, true, List, [], ◌∷◌, eqb, ltb, leb, None, Option, Some}
 use Rattle.ground.specs.Choice.{both, either, fails, between}
 use Rattle.calendar.specs.Dates.{real_date, real_time, is_real, is_before}
 use Rattle.keys.specs.Parity.{odd_parity}
 use Rattle.keys.specs.Keys.{next_generation}
 use Rattle.customer.specs.Settings.{sound_who}
-use Rattle.customer.specs.declared.Previous.{Previous}
-use Rattle.customer.specs.declared.Previous.TheVariants.{Nothing, Held}
 use Rattle.customer.specs.declared.KeyPair.{KeyPair}
 use Rattle.customer.specs.declared.Customer.{Customer}
+use Rattle.customer.specs.declared.Changeover.{Changeover}
 
 -- the changeover of a previous key: the current generation follows it, its parity is odd, its days are real and in order
-unfoldable pub sound_previous : ℕ → Previous → Bool
-sound_previous current Nothing = true
-sound_previous current (Held p) =
+unfoldable pub sound_previous : ℕ → Option Changeover → Bool
+sound_previous current None = true
+sound_previous current (Some p) =
     both (leb p.generation 9)
     (both (eqb (next_generation p.generation) current)
     (both (odd_parity p.key)

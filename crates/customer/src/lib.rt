@@ -15,18 +15,12 @@ pub struct Changeover {
     pub last: calendar::Date,
 }
 
-#[derive(Clone, Copy)]
-pub enum Previous {
-    Nothing,
-    Held(Changeover),
-}
-
 // The keys of one kind: the current one, and perhaps a previous one.
 #[derive(Clone, Copy)]
 pub struct KeyPair {
     pub generation: u32,
     pub key: u64,
-    pub previous: Previous,
+    pub previous: Option<Changeover>,
 }
 
 // A customer: identity (17) and qualifier (8), data types (bit k - 1 for type k), agreement, leave to ask for keys, length of a
@@ -105,7 +99,7 @@ pub fn is_sound_once(k: u64) -> bool
 
 // Whether a key that is held may stand beside the current generation.
 fn is_sound_changeover(current: u32, p: Changeover) -> bool
-    ensures { result ≡ sound_previous current (Previous.Held p) }
+    ensures { result ≡ sound_previous current (Some p) }
 {
     let g = p.generation;
     if 9 < g {
@@ -129,12 +123,12 @@ fn is_sound_changeover(current: u32, p: Changeover) -> bool
 }
 
 // The same of what may be held.
-pub fn is_sound_previous(current: u32, p: Previous) -> bool
+pub fn is_sound_previous(current: u32, p: Option<Changeover>) -> bool
     ensures { result ≡ sound_previous current p }
 {
     match p {
-        Previous::Nothing => true,
-        Previous::Held(c) => is_sound_changeover(current, c),
+        None => true,
+        Some(c) => is_sound_changeover(current, c),
     }
 }
 

@@ -1,5 +1,6 @@
 -- What every layout's laws say of a customer's and the settings': widths, what is written is read back, and the test is right.
 -- Assumes nothing.
+use Rattle.std.specs.Prelude.{None, Option, Some}
 use mathlib.Core.Path.{◌≡◌, refl, sym, ap, ◌∙◌}
 use mathlib.Core.Bool.{Bool, true, false}
 use mathlib.Core.List.{List, [], ◌∷◌}
@@ -20,13 +21,12 @@ use Rattle.codec.specs.Layout.{perhaps, Value, scalar, width, enc, dec, ok, Size
 use Rattle.codec.specs.Rows.{widths, cells}
 use Rattle.codec.proofs.Laws.{wide, exact, sized, dec-part}
 use Rattle.customer.specs.Customer.{sound_customer}
-use Rattle.customer.specs.declared.Previous.{Previous}
-use Rattle.customer.specs.declared.Previous.TheVariants.{Nothing, Held}
 use Rattle.customer.specs.declared.Customer.{Customer}
 use Rattle.customer.specs.declared.Settings.{Settings}
 use Rattle.customer_bytes.specs.Layout.{record_width, settings_width, previous_held, terms_shape, customer_shape, settings_shape}
 use Rattle.customer_bytes.specs.Layout.{previous_from, previous_to, customer_from, terms_to, customer_to, settings_from, settings_to, room_of}
 use Rattle.customer_bytes.specs.Layout.{customer_bytes, customer_of, settings_bytes, settings_of, raw_at, customer_at, settings_at, exact_at}
+use Rattle.customer.specs.declared.Changeover.{Changeover}
 
 -- ---- widths
 
@@ -49,15 +49,15 @@ settings_width_lem s h = wide settings_shape (settings_to s) h
 
 -- ---- the fields are the customer's
 
-pub room_cells : (p : Previous) → (room_of p).held ∷ (room_of p).generation ∷ (room_of p).key ∷ (room_of p).first ∷ (room_of p).last ∷ []
+pub room_cells : (p : Option Changeover) → (room_of p).held ∷ (room_of p).generation ∷ (room_of p).key ∷ (room_of p).first ∷ (room_of p).last ∷ []
     ≡ cells (perhaps previous_held) (previous_to p)
 unfolding cells widths
-room_cells Nothing = refl
-room_cells (Held p) = refl
+room_cells None = refl
+room_cells (Some p) = refl
 
-previous_there : (p : Previous) → previous_from (previous_to p) ≡ p
-previous_there Nothing = refl
-previous_there (Held p) = refl
+previous_there : (p : Option Changeover) → previous_from (previous_to p) ≡ p
+previous_there None = refl
+previous_there (Some p) = refl
 
 previous_back : (v : Value (perhaps previous_held)) → previous_to (previous_from v) ≡ v
 previous_back none = refl

@@ -1,18 +1,17 @@
 -- How a customer's record and a bank's settings are laid out as bytes, field by field in the order of docs/FORMAT.md, and how their fields
 -- are a customer's and the settings'. Every number is written lowest byte first.
 -- Assumes nothing.
-use Rattle.std.specs.Prelude.{ℕ, ◌+◌, Bool, List, leb, length, replicate}
+use Rattle.std.specs.Prelude.{ℕ, ◌+◌, Bool, List, leb, length, replicate, None, Option, Some}
 use Rattle.std.proofs.Math.Option.{none, some}
 use Rattle.ground.specs.Choice.{pick}
 use Rattle.ground.specs.Lists.{part, same}
 use Rattle.codec.specs.Layout.{Shape, number, text, numbers, perhaps, within, ◌⊗◌, Value, enc, dec}
 use Rattle.codec.specs.Flag.{flag}
-use Rattle.customer.specs.declared.Previous.{Previous}
-use Rattle.customer.specs.declared.Previous.TheVariants.{Nothing, Held}
 use Rattle.customer.specs.declared.KeyPair.{KeyPair}
 use Rattle.customer.specs.declared.Customer.{Customer}
 use Rattle.customer.specs.declared.Settings.{Settings}
 use Rattle.customer_bytes.specs.declared.Room.{Room}
+use Rattle.customer.specs.declared.Changeover.{Changeover}
 
 -- a customer's record takes 1,109 bytes, the keys of one kind 27 of them, a previous key 18; the settings take 58
 abbrev pub record_width : ℕ
@@ -72,14 +71,14 @@ settings_shape =
 
 -- ---- the fields are a customer's, and a customer's fields
 
-abbrev pub previous_from : Value (perhaps previous_held) → Previous
-previous_from none = Nothing
+abbrev pub previous_from : Value (perhaps previous_held) → Option Changeover
+previous_from none = None
 previous_from (some (g, (k, (f, l)))) =
-    Held (record { generation = g; key = k; first = record { yymmdd = f }; last = record { yymmdd = l } })
+    Some (record { generation = g; key = k; first = record { yymmdd = f }; last = record { yymmdd = l } })
 
-abbrev pub previous_to : Previous → Value (perhaps previous_held)
-previous_to Nothing = none
-previous_to (Held p) = some (p.generation, (p.key, (p.first.yymmdd, p.last.yymmdd)))
+abbrev pub previous_to : Option Changeover → Value (perhaps previous_held)
+previous_to None = none
+previous_to (Some p) = some (p.generation, (p.key, (p.first.yymmdd, p.last.yymmdd)))
 
 abbrev pub pair_from : Value pair_shape → KeyPair
 pair_from (g, (k, p)) = record { generation = g; key = k; previous = previous_from p }
@@ -117,9 +116,9 @@ abbrev pub settings_to : Settings → Value settings_shape
 settings_to s = (s.bank, (s.software, (s.floor, (s.maker.key, s.maker.seed))))
 
 -- a previous key as the numbers that it is written as
-abbrev pub room_of : Previous → Room
-room_of Nothing = record { held = 0; generation = 0; key = 0; first = 0; last = 0 }
-room_of (Held p) =
+abbrev pub room_of : Option Changeover → Room
+room_of None = record { held = 0; generation = 0; key = 0; first = 0; last = 0 }
+room_of (Some p) =
     record { held = 1; generation = p.generation; key = p.key; first = p.first.yymmdd; last = p.last.yymmdd }
 
 -- ---- as bytes: what each is written as, and what bytes say

@@ -18,12 +18,12 @@ ghost use Rattle.customer_bytes.specs.Layout.{settings_bytes, customer_at, setti
 
 // ---- reading, where the bytes lie within the slice
 
-fn previous_in(t: &[u8], at: usize) -> customer::Previous
+fn previous_in(t: &[u8], at: usize) -> Option<customer::Changeover>
     requires { at + previous_width ≤ length t.now }
     ensures { result ≡ previous_from (dec (perhaps previous_held) at t.now) }
 {
     if codec::read1(t, at) != 1 {
-        return customer::Previous::Nothing;
+        return None;
     }
     let at = at + 1;
     let generation = codec::read1(t, at);
@@ -37,7 +37,7 @@ fn previous_in(t: &[u8], at: usize) -> customer::Previous
     let last = calendar::Date {
         yymmdd: codec::read4(t, at),
     };
-    customer::Previous::Held(customer::Changeover {
+    Some(customer::Changeover {
         generation,
         key,
         first,
@@ -137,18 +137,18 @@ pub struct Room {
     pub last: u64,
 }
 
-fn room_of(p: customer::Previous) -> Room
+fn room_of(p: Option<customer::Changeover>) -> Room
     ensures { result ≡ room_of p }
 {
     match p {
-        customer::Previous::Nothing => Room {
+        None => Room {
             held: 0,
             generation: 0,
             key: 0,
             first: 0,
             last: 0,
         },
-        customer::Previous::Held(h) => Room {
+        Some(h) => Room {
             held: 1,
             generation: h.generation as u64,
             key: h.key,

@@ -1,5 +1,6 @@
 -- A desk after a call or a reply is put together from what the functions computed, field by field.
 -- Assumes nothing.
+use Rattle.std.specs.Prelude.{None, Option}
 use mathlib.Core.Path.{◌≡◌, sym, ap, ap₂, ◌∙◌}
 use mathlib.Core.List.{List}
 use Prim.Native.Nat.{ℕ}
@@ -10,32 +11,31 @@ use Rattle.keys.specs.Keys.{combined, working_key0, next_generation}
 use Rattle.message.specs.declared.Fault.{Fault}
 use Rattle.desk.specs.Held.{replaced, opened_desk, entered_desk, given_by}
 use Rattle.desk.specs.Desk.{with_enclosed, held_after, finding_of, letter_in, code_in, checked_by}
-use Rattle.desk.specs.declared.Before.{Before}
-use Rattle.desk.specs.declared.Before.TheVariants.{Nothing}
 use Rattle.desk.specs.declared.Keys.{Keys}
 use Rattle.desk.specs.declared.Held.{Held}
 use Rattle.desk.specs.declared.Parts.{Parts}
 use Rattle.desk.specs.declared.Given.{Given}
 use Rattle.desk.specs.declared.Finding.{Finding}
 use Rattle.desk.specs.declared.Checked.{Checked}
+use Rattle.desk.specs.declared.Numbered.{Numbered}
 
 -- ---- keys
 
-abbrev keys_of : (generation key : ℕ) → Before → Keys
+abbrev keys_of : (generation key : ℕ) → Option Numbered → Keys
 keys_of g k b = record { generation = g; key = k; before = b }
 
 abbrev pub only_key : (generation key : ℕ) → Keys
-only_key g k = keys_of g k Nothing
+only_key g k = keys_of g k None
 
 -- the key that was used is the current one, or the one before it
 module _ (w : Keys) (used next key : ℕ) (p : next ≡ next_generation used) where
   pub current_used : (r : Keys) → w.generation ≡ used → r ≡ replaced w next key → r ≡ with_enclosed w used key
   unfolding replaced with_enclosed
-  current_used r e q = q ∙ ap₂ (λ (g : ℕ) (b : Before). keys_of g key b) p (sym (picks _ _ _ (eq-eqb w.generation used e)))
+  current_used r e q = q ∙ ap₂ (λ (g : ℕ) (b : Option Numbered). keys_of g key b) p (sym (picks _ _ _ (eq-eqb w.generation used e)))
 
   pub before_used : (w.generation ≡ used → ⊥) → keys_of next key w.before ≡ with_enclosed w used key
   unfolding with_enclosed
-  before_used h = ap₂ (λ (g : ℕ) (b : Before). keys_of g key b) p (sym (skips _ _ _ (ne_eqb w.generation used h)))
+  before_used h = ap₂ (λ (g : ℕ) (b : Option Numbered). keys_of g key b) p (sym (skips _ _ _ (ne_eqb w.generation used h)))
 
 -- ---- desks
 

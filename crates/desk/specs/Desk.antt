@@ -1,6 +1,6 @@
 -- What the desk checks of a reply, in document 02's order, and which key it keeps (R-5; document 001, 4.3.4 and 4.4.4).
 -- Assumes nothing.
-use Rattle.std.specs.Prelude.{ℕ, Bool, true, List, [], ◌∷◌, ◌++◌, eqb, ltb, length, get_or}
+use Rattle.std.specs.Prelude.{ℕ, Bool, true, List, [], ◌∷◌, ◌++◌, eqb, ltb, length, get_or, None, Option, Some}
 use Rattle.ground.specs.Choice.{both, fails, pick}
 use Rattle.ground.specs.Lists.{all, same}
 use Rattle.text.specs.Characters.{digit}
@@ -9,8 +9,6 @@ use Rattle.text.specs.Letters.{letters}
 use Rattle.des.specs.Des.{deciphered}
 use Rattle.keys.specs.Parity.{odd_parity}
 use Rattle.keys.specs.Keys.{next_generation}
-use Rattle.changeover.specs.declared.Key.{Key}
-use Rattle.changeover.specs.declared.Key.TheVariants.{Missing, Is}
 use Rattle.message.specs.Layout.{field, field_text, fields, offset_in}
 use Rattle.message.specs.Order.{Check, first_failing}
 use Rattle.message.specs.Rules.{one_of}
@@ -22,7 +20,6 @@ use Rattle.verdict.specs.Outcomes.{is_sound}
 use Rattle.desk_form.specs.Replies.{encloses, reply_checks}
 use Rattle.desk_form.specs.declared.Reply.TheVariants.{Esi, Pte}
 use Rattle.desk.specs.Held.{key_named}
-use Rattle.desk.specs.declared.Before.TheVariants.{Was}
 use Rattle.desk.specs.declared.Keys.{Keys}
 use Rattle.desk.specs.declared.Held.{Held}
 use Rattle.desk.specs.declared.Sent.{Sent}
@@ -33,16 +30,16 @@ use Rattle.desk.specs.declared.Checked.{Checked}
 -- ---- the key enclosed
 
 -- field 19, deciphered under the transport key of the reply's generation; missing where the desk has no such key
-unfoldable pub deciphering : Key → (sealed : ℕ) → Key
-deciphering Missing sealed = Missing
-deciphering (Is transport) sealed = Is (deciphered transport sealed)
+unfoldable pub deciphering : Option ℕ → (sealed : ℕ) → Option ℕ
+deciphering None sealed = None
+deciphering (Some transport) sealed = Some (deciphered transport sealed)
 
-unfoldable pub enclosed_in : Held → List ℕ → Key
+unfoldable pub enclosed_in : Held → List ℕ → Option ℕ
 enclosed_in h r = deciphering (key_named h.transport (transport_generation_of r)) (hex (field_text (field 19) r))
 
-unfoldable pub is_not_odd : Key → Bool
-is_not_odd Missing = true
-is_not_odd (Is key) = fails (odd_parity key)
+unfoldable pub is_not_odd : Option ℕ → Bool
+is_not_odd None = true
+is_not_odd (Some key) = fails (odd_parity key)
 
 -- ---- the checks that both lists share
 
@@ -98,7 +95,7 @@ with_enclosed w used key =
     record {
       generation = next_generation used;
       key = key;
-      before = pick (eqb w.generation used) (Was (record { generation = w.generation; key = w.key })) w.before;
+      before = pick (eqb w.generation used) (Some (record { generation = w.generation; key = w.key })) w.before;
     }
 
 unfoldable pub kept_from : Held → List ℕ → Held

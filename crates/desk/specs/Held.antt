@@ -1,28 +1,25 @@
 -- What a desk holds: the keys of both kinds, how it is opened, and how a transport key is entered (document 02, R-5).
 -- Assumes nothing.
-use Rattle.std.specs.Prelude.{ℕ, List, [], ◌∷◌, eqb, ltb, replicate}
+use Rattle.std.specs.Prelude.{ℕ, List, [], ◌∷◌, eqb, ltb, replicate, None, Option, Some}
 use Rattle.ground.specs.Choice.{either, fails, pick}
 use Rattle.keys.specs.Keys.{combined, working_key0}
 use Rattle.customer.specs.Settings.{sound_who}
-use Rattle.changeover.specs.declared.Key.{Key}
-use Rattle.changeover.specs.declared.Key.TheVariants.{Missing, Is}
 use Rattle.refusals.specs.Refusals.{Refusal, refusal, lowest, even_part, check_differs, not_next}
-use Rattle.desk.specs.declared.Before.{Before}
-use Rattle.desk.specs.declared.Before.TheVariants.{Nothing, Was}
 use Rattle.desk.specs.declared.Keys.{Keys}
 use Rattle.desk.specs.declared.Held.{Held}
 use Rattle.desk.specs.declared.Parts.{Parts}
 use Rattle.desk.specs.declared.Given.{Given}
+use Rattle.desk.specs.declared.Numbered.{Numbered}
 
 -- ---- keys, which have no days on this side
 
-unfoldable pub before_named : Before → (generation : ℕ) → Key
-before_named Nothing g = Missing
-before_named (Was k) g = pick (eqb k.generation g) (Is k.key) Missing
+unfoldable pub before_named : Option Numbered → (generation : ℕ) → Option ℕ
+before_named None g = None
+before_named (Some k) g = pick (eqb k.generation g) (Some k.key) None
 
 -- the key of that generation, if the desk holds it
-unfoldable pub key_named : Keys → (generation : ℕ) → Key
-key_named k g = pick (eqb k.generation g) (Is k.key) (before_named k.before g)
+unfoldable pub key_named : Keys → (generation : ℕ) → Option ℕ
+key_named k g = pick (eqb k.generation g) (Some k.key) (before_named k.before g)
 
 -- a new key is current, and the one that was current is the one before it
 unfoldable pub replaced : Keys → (generation key : ℕ) → Keys
@@ -30,7 +27,7 @@ replaced k g x =
     record {
       generation = g;
       key = x;
-      before = Was (record { generation = k.generation; key = k.key });
+      before = Some (record { generation = k.generation; key = k.key });
     }
 
 -- ---- a desk is opened from the two key parts, with working key 0 derived
@@ -47,8 +44,8 @@ opened_desk own bank p =
     record {
       own = own;
       bank = bank;
-      transport = record { generation = p.generation; key = key; before = Nothing };
-      working = record { generation = 0; key = working_key0 key; before = Nothing };
+      transport = record { generation = p.generation; key = key; before = None };
+      working = record { generation = 0; key = working_key0 key; before = None };
     }
 
 -- where a desk can't be opened there is none: all zeros
@@ -57,8 +54,8 @@ no_desk =
     record {
       own = replicate 25 0;
       bank = replicate 25 0;
-      transport = record { generation = 0; key = 0; before = Nothing };
-      working = record { generation = 0; key = 0; before = Nothing };
+      transport = record { generation = 0; key = 0; before = None };
+      working = record { generation = 0; key = 0; before = None };
     }
 
 unfoldable pub given_by : (refused : ℕ) (served refusing : Held) → Given

@@ -2,7 +2,7 @@
 
 #![tactic(auto)]
 
-ghost use Rattle.std.specs.Prelude.{◌≡◌, List, [], ◌∷◌, ◌++◌, ◌+◌, ◌-◌, ◌<◌, ◌≤◌, min};
+ghost use Rattle.std.specs.Prelude.{◌≡◌, List, [], ◌∷◌, ◌++◌, ◌+◌, ◌-◌, ◌<◌, ◌≤◌, min, None};
 ghost use Rattle.ground.specs.Choice.{both, fails};
 ghost use Rattle.ground.specs.Lists.{part, same};
 ghost use Rattle.text.specs.Numbers.{decimal, hex};
@@ -13,7 +13,6 @@ ghost use Rattle.message.specs.Fields.{receiver_of, stamp_text_of};
 ghost use Rattle.desk.specs.Sent.{sent_by};
 ghost use Rattle.checks.specs.Checks.{check, check_field, checksum_differs};
 ghost use Rattle.desk_form.specs.Replies.{encloses};
-ghost use Rattle.desk.specs.declared.Before.TheVariants.{Nothing};
 ghost use Rattle.desk.specs.Held.{before_named, key_named, replaced, opening_refusals, opened_desk, no_desk, opening};
 ghost use Rattle.desk.specs.Held.{entering_refusals, entered_desk, entering};
 ghost use Rattle.desk.specs.Desk.{deciphering, enclosed_in, is_not_odd, unlike, reply_key_checks, stamp_sent_checks, desk_esi_checks};
@@ -27,19 +26,12 @@ pub struct Numbered {
     pub key: u64,
 }
 
-// The key before the current one. It has no days on this side.
-#[derive(Clone, Copy)]
-pub enum Before {
-    Nothing,
-    Was(Numbered),
-}
-
 // The keys of one kind.
 #[derive(Clone, Copy)]
 pub struct Keys {
     pub generation: u32,
     pub key: u64,
-    pub before: Before,
+    pub before: Option<Numbered>,
 }
 
 // A desk for one customer at one bank: both identities with their qualifiers, and the keys.
@@ -115,26 +107,26 @@ fn between(from: usize, to: usize, r: &[u8]) -> &[u8]
 // ---- keys
 
 // The key before the current one, where it has that generation.
-fn before_named(b: Before, generation: u32) -> changeover::Key
+fn before_named(b: Option<Numbered>, generation: u32) -> Option<u64>
     ensures { result ≡ before_named b generation }
 {
     match b {
-        Before::Nothing => changeover::Key::Missing,
-        Before::Was(k) => {
+        None => None,
+        Some(k) => {
             if k.generation == generation {
-                return changeover::Key::Is(k.key);
+                return Some(k.key);
             }
-            changeover::Key::Missing
+            None
         }
     }
 }
 
 // The key of that generation, if the desk holds it.
-fn named(k: Keys, generation: u32) -> changeover::Key
+fn named(k: Keys, generation: u32) -> Option<u64>
     ensures { result ≡ key_named k generation }
 {
     if k.generation == generation {
-        return changeover::Key::Is(k.key);
+        return Some(k.key);
     }
     let b = k.before;
     before_named(b, generation)
@@ -148,7 +140,7 @@ fn replace(k: Keys, generation: u32, key: u64) -> Keys
         generation: k.generation,
         key: k.key,
     };
-    let before = Before::Was(old);
+    let before = Some(old);
     Keys {
         generation,
         key,
@@ -239,12 +231,12 @@ fn opening_refusal(own: [u8; 25], bank: [u8; 25], p: Parts) -> u32
 
 // A key without one before it.
 fn only_key(generation: u32, key: u64) -> Keys
-    ensures { result ≡ record { generation = generation; key = key; before = Nothing } }
+    ensures { result ≡ record { generation = generation; key = key; before = None } }
 {
     Keys {
         generation,
         key,
-        before: Before::Nothing,
+        before: None,
     }
 }
 
@@ -365,17 +357,17 @@ fn block_at(at: usize, r: &[u8]) -> u64
 }
 
 // Field 19 as it came, deciphered.
-fn deciphered_under(k: changeover::Key, sealed: u64) -> changeover::Key
+fn deciphered_under(k: Option<u64>, sealed: u64) -> Option<u64>
     ensures { result ≡ deciphering k sealed }
 {
     match k {
-        changeover::Key::Missing => changeover::Key::Missing,
-        changeover::Key::Is(transport) => changeover::Key::Is(des::decipher(transport, sealed)),
+        None => None,
+        Some(transport) => Some(des::decipher(transport, sealed)),
     }
 }
 
 // The key of field 19.
-fn enclosed_in(h: Held, r: &[u8]) -> changeover::Key
+fn enclosed_in(h: Held, r: &[u8]) -> Option<u64>
     ensures { result ≡ enclosed_in h r.now }
 {
     let transport = h.transport;
@@ -460,22 +452,22 @@ fn fault_if_other(
     )
 }
 
-fn checksum_differs(k: changeover::Key, r: &[u8]) -> bool
+fn checksum_differs(k: Option<u64>, r: &[u8]) -> bool
     ensures { result ≡ checksum_differs k r.now }
 {
     match k {
-        changeover::Key::Missing => true,
-        changeover::Key::Is(key) => digest::checksum(key, r) != block_at(144, r),
+        None => true,
+        Some(key) => digest::checksum(key, r) != block_at(144, r),
     }
 }
 
 // A key that is missing has no parity either.
-fn is_not_odd(k: changeover::Key) -> bool
+fn is_not_odd(k: Option<u64>) -> bool
     ensures { result ≡ is_not_odd k }
 {
     match k {
-        changeover::Key::Missing => true,
-        changeover::Key::Is(key) => !keys::has_odd_parity(key),
+        None => true,
+        Some(key) => !keys::has_odd_parity(key),
     }
 }
 

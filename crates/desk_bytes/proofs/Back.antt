@@ -1,6 +1,7 @@
 -- A sound desk whose numbers fit is read back from what it is written as, so those bytes are a desk's; and bytes that are a desk's say one
 -- whose numbers fit.
 -- Assumes nothing.
+use Rattle.std.specs.Prelude.{None, Option, Some}
 use Prim.Native.Nat.{ℕ, ◌+◌, ◌^◌, ◌<◌, ◌≤◌}
 use mathlib.Core.Path.{◌≡◌, ap, ◌∙◌}
 use mathlib.Core.Bool.{Bool, true, false}
@@ -20,19 +21,18 @@ use Rattle.splices.proofs.Chunks.{num-lt}
 use Rattle.codec.specs.Layout.{width, dec, Fits, perhaps}
 use Rattle.codec.proofs.Laws.{wide, fits_sized}
 use Rattle.codec.proofs.Laws as codec
-use Rattle.desk.specs.declared.Before.{Before}
-use Rattle.desk.specs.declared.Before.TheVariants.{Nothing, Was}
 use Rattle.desk.specs.declared.Keys.{Keys}
 use Rattle.desk.specs.declared.Held.{Held}
 use Rattle.desk_bytes.specs.Layout.{held_size, numbered_shape, keys_shape, held_shape, before_from, before_to, keys_to, held_to, held_from}
 use Rattle.desk_bytes.specs.Bytes.{sound_before, sound_keys, sound_held, held_bytes, held_of, is_held}
 use Rattle.desk_bytes.proofs.Fields.{held_there}
+use Rattle.desk.specs.declared.Numbered.{Numbered}
 
 -- ---- keys are eight bytes, names 25 characters
 
-abbrev pub BeforeFits : Before → Type 0
-BeforeFits Nothing = Unit {0}
-BeforeFits (Was k) = k.key < 2 ^ 64
+abbrev pub BeforeFits : Option Numbered → Type 0
+BeforeFits None = Unit {0}
+BeforeFits (Some k) = k.key < 2 ^ 64
 
 pub record KeysFit (k : Keys) : Type 0 where
   pub current : k.key < 2 ^ 64
@@ -44,10 +44,10 @@ pub record HeldFits (h : Held) : Type 0 where
   pub transport : KeysFit h.transport
   pub working : KeysFit h.working
 
-before_fits : (n : ℕ) (b : Before) → sound_before n b ≡ true → BeforeFits b → Fits (perhaps numbered_shape) (before_to b)
+before_fits : (n : ℕ) (b : Option Numbered) → sound_before n b ≡ true → BeforeFits b → Fits (perhaps numbered_shape) (before_to b)
 unfolding sound_before
-before_fits n Nothing s f = tt
-before_fits n (Was k) s f =
+before_fits n None s f = tt
+before_fits n (Some k) s f =
     let g : k.generation ≤ 9 = leb-true k.generation 9 (left _ _ s) in
     (omega arith, omega (arith, f))
 

@@ -1,22 +1,22 @@
 -- A desk is its fields, and so is what was sent.
 -- Assumes nothing.
+use Rattle.std.specs.Prelude.{None, Option, Some}
 use mathlib.Core.Path.{◌≡◌, refl}
 use mathlib.Core.Bool.{true}
 use mathlib.Core.Option.{none, some}
 use Rattle.ground.specs.Choice.{both}
 use Rattle.codec.specs.Layout.{perhaps, Value, scalar}
-use Rattle.desk.specs.declared.Before.{Before}
-use Rattle.desk.specs.declared.Before.TheVariants.{Nothing, Was}
 use Rattle.desk.specs.declared.Held.{Held}
 use Rattle.desk_bytes.specs.Layout.{numbered_shape, keys_shape, held_shape, before_from, held_from, before_to, held_to}
+use Rattle.desk.specs.declared.Numbered.{Numbered}
 
 pub keys_scalar : scalar keys_shape ≡ true
 unfolding both
 keys_scalar = refl
 
-before_there : (b : Before) → before_from (before_to b) ≡ b
-before_there Nothing = refl
-before_there (Was k) = refl
+before_there : (b : Option Numbered) → before_from (before_to b) ≡ b
+before_there None = refl
+before_there (Some k) = refl
 
 before_back : (v : Value (perhaps numbered_shape)) → before_to (before_from v) ≡ v
 before_back none = refl

@@ -1,6 +1,6 @@
 -- Which bytes are a desk's, and what a desk and what was sent are written as.
 -- Assumes nothing.
-use Rattle.std.specs.Prelude.{ℕ, Bool, true, List, eqb, leb, length, replicate}
+use Rattle.std.specs.Prelude.{ℕ, Bool, true, List, eqb, leb, length, replicate, None, Option, Some}
 use Rattle.ground.specs.Choice.{both, pick}
 use Rattle.ground.specs.Lists.{same}
 use Rattle.codec.specs.Layout.{enc, dec}
@@ -8,19 +8,18 @@ use Rattle.keys.specs.Parity.{odd_parity}
 use Rattle.keys.specs.Keys.{next_generation}
 use Rattle.customer.specs.Settings.{sound_who}
 use Rattle.desk.specs.Held.{no_desk}
-use Rattle.desk.specs.declared.Before.{Before}
-use Rattle.desk.specs.declared.Before.TheVariants.{Nothing, Was}
 use Rattle.desk.specs.declared.Keys.{Keys}
 use Rattle.desk.specs.declared.Held.{Held}
 use Rattle.desk.specs.declared.Sent.{Sent}
 use Rattle.desk_bytes.specs.Layout.{held_size, sent_size, held_shape, sent_shape, held_from, sent_from, held_to, sent_to}
+use Rattle.desk.specs.declared.Numbered.{Numbered}
 
 -- ---- which desks there are
 
 -- the current generation follows the one before it; keys have odd parity
-unfoldable pub sound_before : ℕ → Before → Bool
-sound_before current Nothing = true
-sound_before current (Was k) = both (leb k.generation 9) (both (eqb (next_generation k.generation) current) (odd_parity k.key))
+unfoldable pub sound_before : ℕ → Option Numbered → Bool
+sound_before current None = true
+sound_before current (Some k) = both (leb k.generation 9) (both (eqb (next_generation k.generation) current) (odd_parity k.key))
 
 unfoldable pub sound_keys : Keys → Bool
 sound_keys k = both (leb k.generation 9) (both (odd_parity k.key) (sound_before k.generation k.before))

@@ -1,14 +1,13 @@
 -- A desk, and what was sent, as bytes that a bureau keeps (docs/FORMAT.md): the fields in their order, each a line. Every number is written
 -- lowest byte first.
 -- Assumes nothing.
-use Rattle.std.specs.Prelude.{ℕ}
+use Rattle.std.specs.Prelude.{ℕ, None, Option, Some}
 use Rattle.std.proofs.Math.Option.{none, some}
 use Rattle.codec.specs.Layout.{Shape, number, text, perhaps, within, ◌⊗◌, Value}
-use Rattle.desk.specs.declared.Before.{Before}
-use Rattle.desk.specs.declared.Before.TheVariants.{Nothing, Was}
 use Rattle.desk.specs.declared.Keys.{Keys}
 use Rattle.desk.specs.declared.Held.{Held}
 use Rattle.desk.specs.declared.Sent.{Sent}
+use Rattle.desk.specs.declared.Numbered.{Numbered}
 
 -- a desk takes 88 bytes, what was sent 100, the keys of one kind 19 and the one before the current one 10
 abbrev pub held_size : ℕ
@@ -64,9 +63,9 @@ sent_shape =
 
 -- ---- the fields are a desk's, and what was sent
 
-abbrev pub before_from : Value (perhaps numbered_shape) → Before
-before_from none = Nothing
-before_from (some (generation, key)) = Was (record { generation = generation; key = key })
+abbrev pub before_from : Value (perhaps numbered_shape) → Option Numbered
+before_from none = None
+before_from (some (generation, key)) = Some (record { generation = generation; key = key })
 
 abbrev pub keys_from : Value keys_shape → Keys
 keys_from (generation, (key, before)) = record { generation = generation; key = key; before = before_from before }
@@ -90,9 +89,9 @@ sent_from ((receiver, (sender, (transport, working))), (stamp, (area, (once, dig
 
 -- ---- and theirs are the fields
 
-abbrev pub before_to : Before → Value (perhaps numbered_shape)
-before_to Nothing = none
-before_to (Was k) = some (k.generation, k.key)
+abbrev pub before_to : Option Numbered → Value (perhaps numbered_shape)
+before_to None = none
+before_to (Some k) = some (k.generation, k.key)
 
 abbrev pub keys_to : Keys → Value keys_shape
 keys_to k = (k.generation, (k.key, before_to k.before))

@@ -18,18 +18,18 @@ const SENT: usize = 100;
 
 // ---- reading, where the bytes lie within the slice
 
-fn before_in(b: &[u8], at: usize) -> desk::Before
+fn before_in(b: &[u8], at: usize) -> Option<desk::Numbered>
     requires { at + before_width ≤ length b.now }
     ensures { result ≡ before_from (dec (perhaps numbered_shape) at b.now) }
 {
     if codec::read1(b, at) != 1 {
-        return desk::Before::Nothing;
+        return None;
     }
     let at = at + 1;
     let generation = codec::read1(b, at);
     let at = at + 1;
     let key = codec::read8(b, at);
-    desk::Before::Was(desk::Numbered { generation, key })
+    Some(desk::Numbered { generation, key })
 }
 
 fn keys_in(b: &[u8], at: usize) -> desk::Keys
@@ -80,12 +80,12 @@ fn is_exact_before(b: &[u8], at: usize) -> bool
     codec::same_at(&zeros, b, at)
 }
 
-fn is_sound_before(current: u32, k: desk::Before) -> bool
+fn is_sound_before(current: u32, k: Option<desk::Numbered>) -> bool
     ensures { result ≡ sound_before current k }
 {
     match k {
-        desk::Before::Nothing => true,
-        desk::Before::Was(n) => {
+        None => true,
+        Some(n) => {
             if 9 < n.generation {
                 return false;
             }
@@ -162,7 +162,7 @@ fn keys_row(k: desk::Keys) -> [u64; 5]
     ensures { result ≡ cells keys_shape (keys_to k) }
 {
     let before = k.before;
-    let desk::Before::Was(n) = before else {
+    let Some(n) = before else {
         return [k.generation as u64, k.key, 0, 0, 0];
     };
     [k.generation as u64, k.key, 1, n.generation as u64, n.key]

@@ -1,5 +1,6 @@
 -- The state that takes bytes one after the other ends at the MAC of all of them: its block holds the bytes since the last full block.
 -- Assumes nothing.
+use Rattle.std.specs.Prelude.{Some}
 use Rattle.std.proofs.Common.{◌≡◌, ℕ, zero, suc, ◌+◌, ◌-◌, ◌*◌, ◌%◌, ◌^◌, ◌<◌, ◌≤◌, eqb, List, [], ◌∷◌, ◌++◌, map, length, take, replicate, sym, refl, ap, ◌∙◌, ⊎_elim, append_assoc, append-nil, lt_of_lt_of_le, add-zero, mul-le-mul_right, mod-eq_of_lt, mul_assoc, mul-lt-mul_of_pos_right, arith, length-append, take_at, drop_at, pow-add, eq-eqb, ne_eqb, eqb-true}
 use native.Mathlib.Nat.{one-le-pow, pow-succ', pow-le-pow_right}
 use borrow.Author.Tests.{eqb-false}
@@ -14,7 +15,6 @@ use Rattle.des.proofs.Laws.{Each, none, more}
 use Rattle.digest.specs.Mac.{bytes_from, block_of, blocks_from, block_count, blocks, chained, mac}
 use Rattle.digest.specs.Kept.{answer_of}
 use Rattle.digest.specs.Running.{begun, pushed, fed_bytes, closed, answered}
-use Rattle.digest.specs.declared.Answer.TheVariants.{Is}
 use Rattle.digest.specs.declared.State.{State}
 use Rattle.digest.proofs.Folds.{fed_eighth, fed_other, fed_count, closed_full, closed_short}
 
@@ -149,4 +149,4 @@ module _ (e : ℕ → ℕ) where
   answered-mac [] k h = picks _ _ _ (eq-eqb _ _ (fed_count e [] h))
   answered-mac (x ∷ l) k h =
       let n : (fed_bytes e begun (x ∷ l)).n ≡ suc (length l) = fed_count e (x ∷ l) h in
-      skips _ _ _ (ne_eqb _ 0 (λ (z : (fed_bytes e begun (x ∷ l)).n ≡ 0). omega arith)) ∙ ap Is (closed-mac (x ∷ l) k h)
+      skips _ _ _ (ne_eqb _ 0 (λ (z : (fed_bytes e begun (x ∷ l)).n ≡ 0). omega arith)) ∙ ap Some (closed-mac (x ∷ l) k h)

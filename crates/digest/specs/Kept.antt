@@ -1,13 +1,11 @@
 -- What of a batch's records goes into its digest (document 01, 'Digest and checksum'; document 001, 5.1).
 -- Assumes nothing.
-use Rattle.std.specs.Prelude.{ℕ, Bool, true, false, List, [], ◌∷◌, ◌++◌, map, ◌==◌}
+use Rattle.std.specs.Prelude.{ℕ, Bool, true, false, List, [], ◌∷◌, ◌++◌, map, ◌==◌, None, Option, Some}
 use Rattle.ground.specs.Choice.{both, pick}
 use Rattle.text.specs.Characters.{blank, internal}
 use Rattle.digest.specs.Mac.{mac}
 use Rattle.digest.specs.declared.Method.{Method}
 use Rattle.digest.specs.declared.Method.TheVariants.{Skh, Ske}
-use Rattle.digest.specs.declared.Answer.{Answer}
-use Rattle.digest.specs.declared.Answer.TheVariants.{NoCharacters, Is}
 
 unfoldable pub is_empty : List ℕ → Bool
 is_empty [] = true
@@ -29,9 +27,9 @@ kept m [] = []
 kept m (r ∷ rs) = kept_of m r ++ kept m rs
 
 -- the MAC of the kept characters; a batch with no characters left has none
-unfoldable pub answer_of : (ℕ → ℕ) → List ℕ → Answer
-answer_of e [] = NoCharacters
-answer_of e (x ∷ l) = Is (mac e (x ∷ l))
+unfoldable pub answer_of : (ℕ → ℕ) → List ℕ → Option ℕ
+answer_of e [] = None
+answer_of e (x ∷ l) = Some (mac e (x ∷ l))
 
-unfoldable pub digest_of : (ℕ → ℕ) → Method → List (List ℕ) → Answer
+unfoldable pub digest_of : (ℕ → ℕ) → Method → List (List ℕ) → Option ℕ
 digest_of e m records = answer_of e (kept m records)

@@ -1,12 +1,10 @@
 -- The digest as it runs, byte by byte: what the code keeps. That it is the definition's MAC is a law (proofs/).
 -- Assumes nothing.
-use Rattle.std.specs.Prelude.{ℕ, ◌+◌, ◌-◌, ◌*◌, ◌%◌, ◌^◌, List, [], ◌∷◌, ◌==◌, bit_xor}
+use Rattle.std.specs.Prelude.{ℕ, ◌+◌, ◌-◌, ◌*◌, ◌%◌, ◌^◌, List, [], ◌∷◌, ◌==◌, bit_xor, None, Option, Some}
 use Rattle.ground.specs.Choice.{pick}
 use Rattle.text.specs.Characters.{blank, internal}
 use Rattle.digest.specs.declared.Method.{Method}
 use Rattle.digest.specs.declared.Method.TheVariants.{Skh, Ske}
-use Rattle.digest.specs.declared.Answer.{Answer}
-use Rattle.digest.specs.declared.Answer.TheVariants.{NoCharacters, Is}
 use Rattle.digest.specs.declared.State.{State}
 use Rattle.digest.specs.declared.Running.{Running}
 
@@ -39,8 +37,8 @@ unfoldable pub closed : (ℕ → ℕ) → State → ℕ
 closed e s =
     pick (s.n % 8 == 0) s.chain (e (bit_xor s.chain (s.block * 256 ^ (8 - s.n % 8) % 2 ^ 64)))
 
-unfoldable pub answered : (ℕ → ℕ) → State → Answer
-answered e s = pick (s.n == 0) NoCharacters (Is (closed e s))
+unfoldable pub answered : (ℕ → ℕ) → State → Option ℕ
+answered e s = pick (s.n == 0) None (Some (closed e s))
 
 -- ---- a record on its way: the states at its start, after its last character that is no blank, after its last character
 

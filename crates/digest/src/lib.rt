@@ -16,13 +16,6 @@ pub enum Method {
     Ske,
 }
 
-// The MAC, or that no characters were left.
-#[derive(Drop)]
-pub enum Answer {
-    NoCharacters,
-    Is(u64),
-}
-
 // What a digest keeps: the chain, the block so far, and the number of kept characters.
 #[derive(Clone, Copy)]
 pub struct State {
@@ -224,13 +217,13 @@ fn close(table: &[u32; 512], keys: [u64; 16], s: State) -> u64
 }
 
 // The digest's answer.
-pub fn finish(table: &[u32; 512], keys: [u64; 16], s: State) -> Answer
+pub fn finish(table: &[u32; 512], keys: [u64; 16], s: State) -> Option<u64>
     ensures { result ≡ answered (joined_by table.now keys) s }
 {
     if s.n == 0 {
-        return Answer::NoCharacters;
+        return None;
     }
-    Answer::Is(close(table, keys, s))
+    Some(close(table, keys, s))
 }
 
 // The characters that a checksum covers.

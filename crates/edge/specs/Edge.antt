@@ -1,10 +1,8 @@
 -- The calls for a box in C or Rust: numbers and lent bytes in place of structs (docs/FORMAT.md, include/lentilpot.h).
 -- Assumes nothing.
-use Rattle.std.specs.Prelude.{ℕ, ◌+◌, ◌*◌, ◌/◌, ◌%◌, ◌^◌, Bool, List, eqb, ltb, length, replicate}
+use Rattle.std.specs.Prelude.{ℕ, ◌+◌, ◌*◌, ◌/◌, ◌%◌, ◌^◌, Bool, List, eqb, ltb, length, replicate, None, Option, Some}
 use Rattle.ground.specs.Choice.{both, pick, one}
 use Rattle.calendar.specs.declared.CalendarDays.{CalendarDays}
-use Rattle.refusals.specs.declared.Length.{Length}
-use Rattle.refusals.specs.declared.Length.TheVariants.{Given, LeftOut}
 use Rattle.table_calls.specs.declared.Setting.{Setting}
 use Rattle.table_calls.specs.declared.Adding.{Adding}
 use Rattle.table_calls.specs.declared.Entering.{Entering}
@@ -27,8 +25,8 @@ unfoldable pub setting_by : (bank software : List ℕ) (floor key seed : ℕ) �
 setting_by bank software floor k v =
     record { bank = fixed 25 bank; software = fixed 16 software; floor = floor; key = k; seed = v }
 
-unfoldable pub length_by : ℕ → CalendarDays → Length
-length_by given n = pick (eqb given 0) LeftOut (Given n)
+unfoldable pub length_by : ℕ → CalendarDays → Option CalendarDays
+length_by given n = pick (eqb given 0) None (Some n)
 
 -- yes-or-no numbers other than 0 and 1 are refusal 11, as types past the sixteenth are
 unfoldable pub types_by : (types agreed leave given : ℕ) → ℕ

@@ -44,13 +44,13 @@ fn types_by(types: u32, agreed: u32, leave: u32, given: u32) -> u32
     types
 }
 
-fn length_by(given: u32, n: calendar::CalendarDays) -> refusals::Length
+fn length_by(given: u32, n: calendar::CalendarDays) -> Option<calendar::CalendarDays>
     ensures { result ≡ length_by given n }
 {
     if given == 0 {
-        return refusals::Length::LeftOut;
+        return None;
     }
-    refusals::Length::Given(n)
+    Some(n)
 }
 
 // How many bytes a session takes.

@@ -1,5 +1,6 @@
 -- A SUO that is built opens a frame under the one-time key that was made; its VAR repeats it and carries the digest, so that no check fails.
 -- Assumes nothing.
+use Rattle.std.specs.Prelude.{Option, Some}
 use mathlib.Core.Path.{◌≡◌, refl, sym, ap, ◌∙◌, subst}
 use mathlib.Core.Bool.{true, false}
 use mathlib.Core.Logic.{inl}
@@ -20,15 +21,10 @@ use Rattle.keys.specs.Parity.{odd_parity}
 use Rattle.keys.specs.Maker.{made_of}
 use Rattle.keys.proofs.Laws.{made_odd, made_lt}
 use Rattle.digest.specs.Kept.{is_empty, kept, digest_of}
-use Rattle.digest.specs.declared.Answer.{Answer}
-use Rattle.digest.specs.declared.Answer.TheVariants.{Is as Answer-as-Is}
 use Rattle.digest.specs.declared.Method.{Method}
 use Rattle.customer.specs.declared.Customer.{Customer}
 use Rattle.changeover.specs.Held.{held_key}
-use Rattle.changeover.specs.declared.Key.{Key}
-use Rattle.changeover.specs.declared.Key.TheVariants.{Is}
 use Rattle.table.specs.Table.{Table, place_of, sound_table}
-use Rattle.table.specs.declared.Found.{Found}
 use Rattle.table.proofs.Places.{known_at, named_at}
 use Rattle.message.specs.Layout.{total, layout, layout_length}
 use Rattle.message.specs.Order.{first_failing}
@@ -123,7 +119,7 @@ module _ (h : Held) (software method stamp : List ℕ) (area once digest request
   module _ (t : Table) (today : Date) (kind : ℕ) (sound : sound_table t ≡ true) (may : MaySendBatch t today kind h stamp once)
       (odd : odd_parity once ≡ true) (well : Well Suo h suo) (form : breaks_rules Var var ≡ false) where
     abbrev frame : Frame
-    frame = record { suo = whole Suo suo; var = collected var; once = Is once; digest = Answer-as-Is digest }
+    frame = record { suo = whole Suo suo; var = collected var; once = Some once; digest = Some digest }
 
     keys_pass : NoneFails (key_checks t (customer_of t h) today frame)
     unfolding key_checks is_missing key_or0 digest_differs digest_field_of var_built
@@ -144,7 +140,7 @@ module _ (h : Held) (software method stamp : List ℕ) (area once digest request
                 not_failed _ odd,
                 (
                   agree _ _ (sym (ap hex (var_digest suo h.working.key digest request suo_long) ∙ hex_back 16 digest less)),
-                  (ap (λ (x : Key). checksum_differs x var) (working_held t today h stamp suo_text sound m suo_says g w) ∙ sum, tt),
+                  (ap (λ (x : Option ℕ). checksum_differs x var) (working_held t today h stamp suo_text sound m suo_says g w) ∙ sum, tt),
                 ),
               ),
             ),
@@ -181,12 +177,12 @@ module _ (h : Held) (software method stamp : List ℕ) (area once digest request
 
     -- ---- the one-time key is read as it was made
 
-    held_here : transport_held t (place_of t (sender_of suo_text)) suo_text ≡ Is h.transport.key
+    held_here : transport_held t (place_of t (sender_of suo_text)) suo_text ≡ Some h.transport.key
     unfolding transport_held
     held_here =
         let m = may.message in
         let p = known_at (place_of t h.own) m.known in
-        ap (λ (f : Found). transport_held t f suo_text) (ap (place_of t) suo_says.sender ∙ p.1)
+        ap (λ (f : Option ℕ). transport_held t f suo_text) (ap (place_of t) suo_says.sender ∙ p.1)
         ∙ ap (λ (c : Customer). held_key c.transport (transport_generation_of suo_text)) (sym (named_at t h.own p.0 p.1))
         ∙ transport_held_lem t today h stamp suo_text sound m suo_says well.transport well.working
 
@@ -196,13 +192,13 @@ module _ (h : Held) (software method stamp : List ℕ) (area once digest request
         ap hex (known_repeats suo suo_long 150 refl ∙ suo_once h software method stamp area once z)
         ∙ hex_back 16 _ (enciphered-lt h.transport.key once)
 
-    pub once_is : once_of t (whole Suo suo) ≡ Is once
+    pub once_is : once_of t (whole Suo suo) ≡ Some once
     unfolding once_of one_time_of one_time is_sound
     once_is =
         picks _ _ _ (ap is_sound well.form)
-        ∙ ap (λ (k : Key). one_time k suo_text) held_here
-        ∙ ap (λ (x : ℕ). Is (deciphered h.transport.key x)) once_read
-        ∙ ap Is (deciphered-enciphered h.transport.key once fits)
+        ∙ ap (λ (k : Option ℕ). one_time k suo_text) held_here
+        ∙ ap (λ (x : ℕ). Some (deciphered h.transport.key x)) once_read
+        ∙ ap Some (deciphered-enciphered h.transport.key once fits)
 
   -- ---- the records of the file
 
@@ -216,7 +212,7 @@ module _ (h : Held) (software method stamp : List ℕ) (area once digest request
       (may : MaySendBatch s.table o.today o.kind h stamp once) (odd : odd_parity once ≡ true) (well : Well Suo h suo)
       (form : breaks_rules Var var ≡ false) where
     abbrev framed : List (List ℕ) → Opened
-    framed records = record { suo = whole Suo suo; once = Is once; records = records }
+    framed records = record { suo = whole Suo suo; once = Some once; records = records }
 
     suo_standing : (record_in o s s.situation suo).after ≡ stands_in s (framed [])
     unfolding suo_starts suo_goes_on suo_ends silent tag_of letters same both
@@ -224,17 +220,17 @@ module _ (h : Held) (software method stamp : List ℕ) (area once digest request
         let st = suo_states h software method stamp area once z in
         suo_opens o s suo (begins_as Suo suo st ">>SUO") (begins_as Suo suo st ">>VAR") s.situation stand
         ∙ ap (λ (x : Step). x.after) (taken_whole Suo suo st _ _ (suo_ends s))
-        ∙ ap (λ (k : Key). stands_in s (record { suo = whole Suo suo; once = k; records = [] }))
+        ∙ ap (λ (k : Option ℕ). stands_in s (record { suo = whole Suo suo; once = k; records = [] }))
         (once_is s.table o.today o.kind sound may odd well form)
 
-    module _ (records : List (List ℕ)) (is : digest_of (enciphered once) (method_of suo) records ≡ Answer-as-Is digest) where
+    module _ (records : List (List ℕ)) (is : digest_of (enciphered once) (method_of suo) records ≡ Some digest) where
       abbrev judged : Frame
       judged = frame s.table o.today o.kind sound may odd well form
 
       frame_is : frame_of (framed records) (collected var) ≡ judged
       unfolding frame_of key_or0
       frame_is =
-          ap (λ (a : Answer). record { suo = whole Suo suo; var = collected var; once = Is once; digest = a })
+          ap (λ (a : Option ℕ). record { suo = whole Suo suo; var = collected var; once = Some once; digest = a })
           (ap (λ (m : Method). digest_of (enciphered once) m records) (known_method suo suo_long) ∙ is)
 
       var_accepts : Accepts (PteFinds h suo var) (record_in o (stands_in s (framed records)) (stands_in s (framed records)).situation var)

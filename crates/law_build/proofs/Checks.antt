@@ -1,5 +1,6 @@
 -- No check fails: each asks of a field what the field was built to say, or what a premise says.
 -- Assumes nothing.
+use Rattle.std.specs.Prelude.{Option, Some}
 use mathlib.Core.Path.{◌≡◌, sym, ap, ◌∙◌}
 use mathlib.Core.Bool.{true, false}
 use mathlib.Core.Logic.{⊎_elim}
@@ -25,8 +26,6 @@ use Rattle.customer.specs.Settings.{sound_settings}
 use Rattle.customer.specs.declared.Customer.{Customer}
 use Rattle.customer.specs.declared.KeyPair.{KeyPair}
 use Rattle.changeover.specs.Held.{held_key, good_for}
-use Rattle.changeover.specs.declared.Key.{Key}
-use Rattle.changeover.specs.declared.Key.TheVariants.{Is}
 use Rattle.acceptance.specs.Stamps.{holds_stamp}
 use Rattle.table.specs.Table.{Table, place_of, is_unknown, sound_table}
 use Rattle.table.specs.Named.{named}
@@ -69,7 +68,7 @@ current_good : (k : KeyPair) (g : ℕ) (d : Date) → k.generation ≡ g → goo
 unfolding good_for
 current_good k g d e = either_left _ _ (eq-eqb _ _ e)
 
-current_held : (k : KeyPair) (g : ℕ) → k.generation ≡ g → held_key k g ≡ Is k.key
+current_held : (k : KeyPair) (g : ℕ) → k.generation ≡ g → held_key k g ≡ Some k.key
 unfolding held_key
 current_held k g e = picks _ _ _ (eq-eqb _ _ e)
 
@@ -81,7 +80,7 @@ mac-lt key l = chained-lt key 0 _ (omega arith)
 
 -- it is over the fields before it
 pub sum_passes : (key request : ℕ) (front : List Said) (m : List ℕ) → m ≡ joined (front ++ closing_fields key front request)
-    → length (joined front) ≡ 144 → field_text 170 m ≡ hex_digits 16 (checksum_of key (joined front)) → checksum_differs (Is key) m ≡ false
+    → length (joined front) ≡ 144 → field_text 170 m ≡ hex_digits 16 (checksum_of key (joined front)) → checksum_differs (Some key) m ≡ false
 unfolding checksum_differs checksum_field_of
 sum_passes key request front m e n f =
     let c = checksum_of key (joined front) in
@@ -150,11 +149,11 @@ module _ (t : Table) (today : Date) (h : Held) (stamp m : List ℕ) (sound : sou
     pub working_good : (d : Date) → good_for (customer_of t h).working (working_generation_of m) d ≡ true
     working_good d = current_good _ _ d working_named
 
-    pub transport_held_lem : held_key (customer_of t h).transport (transport_generation_of m) ≡ Is h.transport.key
-    transport_held_lem = current_held _ _ transport_named ∙ ap Is may.same_keys.transport_key
+    pub transport_held_lem : held_key (customer_of t h).transport (transport_generation_of m) ≡ Some h.transport.key
+    transport_held_lem = current_held _ _ transport_named ∙ ap Some may.same_keys.transport_key
 
-    pub working_held : held_key (customer_of t h).working (working_generation_of m) ≡ Is h.working.key
-    working_held = current_held _ _ working_named ∙ ap Is may.same_keys.working_key
+    pub working_held : held_key (customer_of t h).working (working_generation_of m) ≡ Some h.working.key
+    working_held = current_held _ _ working_named ∙ ap Some may.same_keys.working_key
 
     -- of the generations that the message names the desk holds what the bank's table holds
     pub same_keys : SameKeys h (sent_from t m) m
@@ -168,9 +167,9 @@ module _ (t : Table) (today : Date) (h : Held) (stamp m : List ℕ) (sound : sou
           working = picks _ _ _ (eq-eqb _ _ (sym may.same_keys.working_generation ∙ working_named)) ∙ sym (d ∙ working_held);
         }
 
-    pub esi_keys_pass : checksum_differs (Is h.working.key) m ≡ false → NoneFails (esi_key_checks (customer_of t h) m)
+    pub esi_keys_pass : checksum_differs (Some h.working.key) m ≡ false → NoneFails (esi_key_checks (customer_of t h) m)
     unfolding esi_key_checks
     esi_keys_pass sum = (
       not_failed _ (transport_good (date_of_stamp m)),
-      (not_failed _ (working_good (date_of_stamp m)), (ap (λ (x : Key). checksum_differs x m) working_held ∙ sum, tt)),
+      (not_failed _ (working_good (date_of_stamp m)), (ap (λ (x : Option ℕ). checksum_differs x m) working_held ∙ sum, tt)),
     )

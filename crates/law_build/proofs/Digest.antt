@@ -1,5 +1,6 @@
 -- The digest that grows record by record is that of the records together: a record is fed at the place where the one before it ended.
 -- Assumes nothing.
+use Rattle.std.specs.Prelude.{Some}
 use mathlib.Core.Path.{◌≡◌, refl, sym, ap, ◌∙◌}
 use mathlib.Core.Bool.{Bool, true, false}
 use mathlib.Core.List.{List, [], ◌∷◌}
@@ -10,7 +11,6 @@ use Rattle.digest.specs.Mac.{mac}
 use Rattle.digest.specs.Kept.{is_empty, kept_of, kept, answer_of, digest_of}
 use Rattle.digest.specs.Running.{begun, fed_bytes, answered, alike}
 use Rattle.digest.specs.declared.Method.{Method}
-use Rattle.digest.specs.declared.Answer.TheVariants.{Is}
 use Rattle.digest.specs.declared.State.{State}
 use Rattle.digest.specs.declared.Running.{Running}
 use Rattle.digest.proofs.Folds.{fed_append}
@@ -49,14 +49,14 @@ all_added_lem b (r ∷ rs) =
 
 -- ---- the digest
 
-some_digest : (e : ℕ → ℕ) (l : List ℕ) → is_empty l ≡ false → answer_of e l ≡ Is (mac e l)
+some_digest : (e : ℕ → ℕ) (l : List ℕ) → is_empty l ≡ false → answer_of e l ≡ Some (mac e l)
 unfolding is_empty answer_of
 some_digest e [] n = let z : ◌≡◌ {A = Bool} true false = n in cc
 some_digest e (x ∷ l) n = refl
 
 module _ (e : ℕ → ℕ) (m : Method) (records : List (List ℕ)) (some : is_empty (kept m records) ≡ false)
     (few : size_of records ≤ size_limit) where
-  pub digest_is : digest_of e m records ≡ Is (mac e (kept m records))
+  pub digest_is : digest_of e m records ≡ Some (mac e (kept m records))
   unfolding digest_of
   digest_is = some_digest e (kept m records) some
 

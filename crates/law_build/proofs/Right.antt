@@ -1,6 +1,7 @@
 -- One table, one desk, an ESI and a batch after it: the checker computes that each premise holds there, the batch's on the table as the ESI left
 -- it, and that nothing is refused. Worked has the calls' bytes.
 -- Assumes nothing.
+use Rattle.std.specs.Prelude.{None}
 use Prim.Native.Nat.{ℕ}
 use mathlib.Core.Path.{◌≡◌, refl}
 use mathlib.Core.Bool.{true, false}
@@ -27,7 +28,6 @@ use Rattle.customer.specs.Customer.{sound_previous, sound_keys, sound_stamps, so
 use Rattle.customer.specs.Settings.{sound_name, sound_who, sound_settings}
 use Rattle.customer.specs.declared.Customer.{Customer}
 use Rattle.customer.specs.declared.KeyPair.{KeyPair}
-use Rattle.customer.specs.declared.Previous.TheVariants.{Nothing}
 use Rattle.changeover.specs.Held.{previous_named, held_key, previous_good, good_for, changing}
 use Rattle.acceptance.specs.Stamps.{holds_stamp, live_of, once_used, with_stamp}
 use Rattle.acceptance.specs.Grants.{on_acceptance, granted_by}
@@ -54,7 +54,6 @@ use Rattle.whole_file.specs.WholeFile.{esi_goes_on, esi_starts, first_record}
 use Rattle.whole_file.specs.WholeFile.{record_in, at_start}
 use Rattle.whole_file.specs.WholeFile.{Standing, outside}
 use Rattle.desk.specs.declared.Held.{Held}
-use Rattle.desk.specs.declared.Before.TheVariants.{Nothing as None}
 use Rattle.law_desk.specs.Desks.{stands_after, item_step}
 use Rattle.build.specs.Messages.{tag_of, size_of, esi_built, suo_built, var_built}
 use Rattle.build.specs.Building.{breaks_rules, other_generation, building_refusals, message_by, esi_building, suo_made, suo_refusal, suo_building}
@@ -70,7 +69,7 @@ abbrev pub key : ℕ
 key = 0x0123456789ABCDEF
 
 abbrev keys : KeyPair
-keys = record { generation = 1; key = key; previous = Nothing }
+keys = record { generation = 1; key = key; previous = None }
 
 abbrev own : List ℕ
 own = letters "CUSTOMER         QUALI110"

@@ -1,5 +1,6 @@
 -- Bytes that are neither LF nor CR are heard one after the other, and so together: the one-time key, under which the digest is made, stays.
 -- Assumes nothing.
+use Rattle.std.specs.Prelude.{Option}
 use Prim.Native.Nat.{ℕ, ◌+◌, ◌<◌, ◌≤◌}
 use mathlib.Core.Path.{◌≡◌, refl, sym, ap, ap₂, ◌∙◌}
 use mathlib.Core.List.{List, [], ◌∷◌, ◌++◌}
@@ -18,7 +19,6 @@ use Rattle.des.specs.Des.{enciphered}
 use Rattle.digest.specs.Running.{took_bytes}
 use Rattle.digest.specs.declared.Running.{Running}
 use Rattle.digest.proofs.Folds.{took_append}
-use Rattle.changeover.specs.declared.Key.{Key}
 use Rattle.checks.specs.Checks.{key_or0}
 use Rattle.whole_file.specs.Records.{lf, cr, size_limit}
 use Rattle.session.specs.Lines.{Event, characters, waited, event_of, line_after}
@@ -64,7 +64,7 @@ batch_append e p b a c = append_by (is_data p) e b a c
 -- so the key that the digest is made under stays
 cipher_stays : (s : Session) (a : List ℕ) → cipher_of (heard s a) ≡ cipher_of s
 unfolding cipher_of heard heard_by
-cipher_stays s a = ap {B = ℕ → ℕ} (λ (k : Key). λ x. enciphered (key_or0 k) x) (batch_once (cipher_of s) s.place s.batch a)
+cipher_stays s a = ap {B = ℕ → ℕ} (λ (k : Option ℕ). λ x. enciphered (key_or0 k) x) (batch_once (cipher_of s) s.place s.batch a)
 
 pub heard-append : (s : Session) (a c : List ℕ) → heard (heard s a) c ≡ heard s (a ++ c)
 unfolding heard heard_by

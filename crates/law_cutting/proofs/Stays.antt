@@ -1,5 +1,6 @@
 -- What stays in a session whatever is done to it: each part is made anew within its range, or is the one before.
 -- Assumes nothing.
+use Rattle.std.specs.Prelude.{None, Option, Some}
 use Prim.Native.Nat.{ℕ, ◌<◌, ◌≤◌, ◌^◌}
 use mathlib.Core.Path.{◌≡◌, refl, ap, ◌∙◌}
 use mathlib.Core.List.{List, [], ◌∷◌}
@@ -14,8 +15,6 @@ use Rattle.ground.proofs.Parts.{part_length}
 use Rattle.des.proofs.Inverse.{enciphered-lt, deciphered-lt}
 use Rattle.digest.specs.Ranges.{RunningFits}
 use Rattle.digest.proofs.Ranges.{took_fits}
-use Rattle.changeover.specs.declared.Key.{Key}
-use Rattle.changeover.specs.declared.Key.TheVariants.{Missing, Is}
 use Rattle.acceptance.specs.declared.Granted.{Granted}
 use Rattle.table.specs.Table.{Table, place_of}
 use Rattle.message.specs.Layout.{offset_in}
@@ -129,15 +128,15 @@ extent_uncut kind chars =
     picked Uncut _ _ _ (λ e. refl) (λ e. picked Uncut _ _ _ (λ e. refl) (λ e. picked Uncut _ _ _ (λ e. refl) (λ e. refl)))
 
 -- a deciphered key is eight bytes
-deciphered_fits : (k : Key) (m : List ℕ) → key_or0 (one_time k m) < 2 ^ 64
+deciphered_fits : (k : Option ℕ) (m : List ℕ) → key_or0 (one_time k m) < 2 ^ 64
 unfolding one_time key_or0
-deciphered_fits Missing m = omega arith
-deciphered_fits (Is k) m = deciphered-lt k (once_field_of m)
+deciphered_fits None m = omega arith
+deciphered_fits (Some k) m = deciphered-lt k (once_field_of m)
 
 pub once_fits : (t : Table) (m : Collected) → key_or0 (once_of t m) < 2 ^ 64
 unfolding once_of one_time_of key_or0
 once_fits t m =
-    picked (λ (k : Key). key_or0 k < 2 ^ 64) _ _ _ (λ e. deciphered_fits (transport_held t (place_of t (sender_of m.text)) m.text)
+    picked (λ (k : Option ℕ). key_or0 k < 2 ^ 64) _ _ _ (λ e. deciphered_fits (transport_held t (place_of t (sender_of m.text)) m.text)
     m.text) (λ e. omega arith)
 
 -- identity and qualifier are 25 characters

@@ -1,6 +1,7 @@
 -- A call changes the record of one place at most, that of the customer whom it names, keeps its name and moves nobody: so every other
 -- stands as it was.
 -- Assumes nothing.
+use Rattle.std.specs.Prelude.{Some}
 use Prim.Native.Nat.{ℕ, ◌+◌, ◌<◌}
 use mathlib.Core.Path.{◌≡◌, refl, sym, ap, ◌∙◌, subst}
 use mathlib.Core.List.{List, [], ◌∷◌, ◌++◌}
@@ -13,7 +14,6 @@ use Rattle.customer.specs.declared.Customer.{Customer}
 use Rattle.table.specs.Table.{Table, place_from, place_of, is_unknown, customer_in, with_added, with_day, with_seed}
 use Rattle.table.specs.Named.{named, with_named}
 use Rattle.table.specs.Decode.{table_of}
-use Rattle.table.specs.declared.Found.TheVariants.{At}
 use Rattle.table.proofs.Decode.{written_is}
 use Rattle.table.proofs.Places.{same_place, found_is, named_at, with_named_at}
 use Rattle.table_calls.specs.Calls.{new_table, new_customer, added_to, entered_in, ordered_in}
@@ -63,7 +63,7 @@ stays_by t u to p r k =
     }
 
 -- the place found for a name is no place of another name
-apart : (t : Table) (who : List ℕ) (i j : ℕ) → place_of t who ≡ At i → same who (customer_in t j).who ≡ false → i ≡ j → ⊥
+apart : (t : Table) (who : List ℕ) (i j : ℕ) → place_of t who ≡ Some i → same who (customer_in t j).who ≡ false → i ≡ j → ⊥
 apart t who i j p n q =
     false≢true
     (sym n ∙ eq-same _ _ (sym (found_is t who i p).1 ∙ ap (λ (k : ℕ). (customer_in t k).who) q))
@@ -84,9 +84,9 @@ unfolding place_from is_unknown pick
 place_more [] m k who e = absurd (false≢true (sym e))
 place_more (c ∷ l) m k who e = by (same c.who who) e (place_more l m (k + 1) who)
   where
-    by : (v : Bool) → is_unknown (pick v (At k) (place_from (k + 1) who l)) ≡ false
+    by : (v : Bool) → is_unknown (pick v (Some k) (place_from (k + 1) who l)) ≡ false
         → (is_unknown (place_from (k + 1) who l) ≡ false → place_from (k + 1) who (l ++ m) ≡ place_from (k + 1) who l)
-        → pick v (At k) (place_from (k + 1) who (l ++ m)) ≡ pick v (At k) (place_from (k + 1) who l)
+        → pick v (Some k) (place_from (k + 1) who (l ++ m)) ≡ pick v (Some k) (place_from (k + 1) who l)
     by true p r = refl
     by false p r = r p
 
@@ -99,13 +99,13 @@ added_stays t a to = stays_by t (added_to t a) to (added_place t a) (λ i h n. a
 
 -- ---- a new key: the record in the named one's place has its name
 
-renamed_place : (t : Table) (who : List ℕ) (i : ℕ) (c : Customer) → place_of t who ≡ At i → c.who ≡ (named t who).who
+renamed_place : (t : Table) (who : List ℕ) (i : ℕ) (c : Customer) → place_of t who ≡ Some i → c.who ≡ (named t who).who
     → (x : List ℕ) → place_of (with_named t who c) x ≡ place_of t x
 renamed_place t who i c p w x =
     ap (λ (u : Table). place_of u x) (with_named_at t who i c p)
     ∙ same_place t i c x (w ∙ ap (λ (d : Customer). d.who) (named_at t who i p))
 
-module _ (t : Table) (e : Entering) (i : ℕ) (p : place_of t e.who ≡ At i) where
+module _ (t : Table) (e : Entering) (i : ℕ) (p : place_of t e.who ≡ Some i) where
   entered_place : (who : List ℕ) → place_of (entered_in t e) who ≡ place_of t who
   unfolding entered_in place_of with_day
   entered_place who = renamed_place t e.who i _ p (transport_who _ _ _ _) who
@@ -116,7 +116,7 @@ module _ (t : Table) (e : Entering) (i : ℕ) (p : place_of t e.who ≡ At i) wh
       (λ j h n. entered_others t e i j p (apart t e.who i j p n))
       (entered_keeps t e).0
 
-module _ (t : Table) (o : Ordering) (i : ℕ) (p : place_of t o.who ≡ At i) where
+module _ (t : Table) (o : Ordering) (i : ℕ) (p : place_of t o.who ≡ Some i) where
   ordered_place : (who : List ℕ) → place_of (ordered_in t o) who ≡ place_of t who
   unfolding ordered_in place_of with_day with_seed
   ordered_place who = renamed_place t o.who i _ p (working_who _ _ _) who
@@ -130,7 +130,7 @@ module _ (t : Table) (o : Ordering) (i : ℕ) (p : place_of t o.who ≡ At i) wh
 -- ---- a read and an end: a reply with K names its sender
 
 k_names : (t : Table) (j : ℕ) (rs : List (List ℕ)) (r : List ℕ) → is_named (customer_in t j).who rs ≡ false → rs ≡ r ∷ [] → is_k r ≡ true
-    → place_of t (receiver_of r) ≡ At j → ⊥
+    → place_of t (receiver_of r) ≡ Some j → ⊥
 unfolding is_named
 k_names t j rs r n e k p =
     false≢true

@@ -1,6 +1,7 @@
 -- An accepted message's reply is full, made with the keys that the message names, and repeats the message: so the desk with the same keys
 -- passes it.
 -- Assumes nothing.
+use Rattle.std.specs.Prelude.{None, Some}
 use Prim.Native.Nat.{ℕ, zero, suc, ◌<◌}
 use mathlib.Core.Path.{◌≡◌, refl, sym, ap, ◌∙◌}
 use mathlib.Core.Bool.{Bool, true}
@@ -17,7 +18,6 @@ use Rattle.customer.specs.Settings.{sound_name, sound_settings}
 use Rattle.customer.specs.declared.Customer.{Customer}
 use Rattle.customer.specs.declared.Settings.{Settings}
 use Rattle.changeover.specs.Held.{held_key}
-use Rattle.changeover.specs.declared.Key.TheVariants.{Missing, Is}
 use Rattle.acceptance.specs.Stamps.{with_stamp}
 use Rattle.acceptance.specs.declared.Granted.{Granted}
 use Rattle.table.specs.Table.{Table, nobody, customer_in, with_seed, customer_fits, settings_fit, each_sound, sound_table}
@@ -111,7 +111,7 @@ module _ (t : Table) (sound : sound_table t ≡ true) (o : Opening) (x : Occasio
   unfolding table_after with_seed
   software_stays = ap (λ (s : Settings). s.software) (named_stays t (sender_of m) (record_after t x m closing once)).1
 
-  module _ (w : ℕ) (held : held_key c.working (working_generation_of m) ≡ Is w) where
+  module _ (w : ℕ) (held : held_key c.working (working_generation_of m) ≡ Some w) where
     pub made_so : Made answer pte
     unfolding full_answer settings_fit sound_settings
     made_so =
@@ -143,7 +143,7 @@ module _ (t : Table) (sound : sound_table t ≡ true) (o : Opening) (x : Occasio
         }
 
     -- an enclosed key is current afterwards
-    pub current_after : (y : ℕ) → g.enclosed ≡ Is y
+    pub current_after : (y : ℕ) → g.enclosed ≡ Some y
         → ((named u (sender_of m)).working.generation ≡ next_generation (working_generation_of m))
         × ((named u (sender_of m)).working.key ≡ y)
     unfolding grant_to
@@ -151,7 +151,7 @@ module _ (t : Table) (sound : sound_table t ≡ true) (o : Opening) (x : Occasio
         let r = enclosed_current c t.settings.maker _ x.today (working_generation_of m) _ (working_sound c sender_sound.1) w held y e in
         (ap (λ (k : _). k.generation) working_after ∙ r.0, ap (λ (k : _). k.key) working_after ∙ r.1)
 
-  pub same_after : g.enclosed ≡ Missing
+  pub same_after : g.enclosed ≡ None
       → ((named u (sender_of m)).working.generation ≡ c.working.generation) × ((named u (sender_of m)).working.key ≡ c.working.key)
   unfolding grant_to
   same_after e =

@@ -1,6 +1,7 @@
 -- A desk that is opened, given a key or that kept one is a sound desk again: each key has odd parity, and the current generation follows the
 -- one before it.
 -- Assumes nothing.
+use Rattle.std.specs.Prelude.{None, Option, Some}
 use Prim.Native.Nat.{ℕ, ◌^◌, ◌<◌, ◌≤◌}
 use mathlib.Core.Path.{◌≡◌, refl, sym, ap, ◌∙◌, subst}
 use mathlib.Core.Bool.{Bool, true, false, false≢true}
@@ -17,8 +18,6 @@ use Rattle.keys.specs.Keys.{combined, working_key0, next_generation}
 use Rattle.keys.proofs.Laws.{combined_odd, combined-lt, working_key_0_odd, working_key_0_lt, next_generation-le}
 use Rattle.des.specs.Des.{deciphered}
 use Rattle.des.proofs.Inverse.{deciphered-lt}
-use Rattle.changeover.specs.declared.Key.{Key}
-use Rattle.changeover.specs.declared.Key.TheVariants.{Missing, Is}
 use Rattle.refusals.specs.Refusals.{refusal, lowest, not_next}
 use Rattle.refusals.proofs.Refused.{served}
 use Rattle.splices.proofs.Splice.{AllBytes}
@@ -35,9 +34,7 @@ use Rattle.desk_form.specs.Replies.{encloses, reply_checks}
 use Rattle.desk_form.specs.declared.Reply.TheVariants.{Esi, Pte}
 use Rattle.desk.specs.Desk.{deciphering, enclosed_in, is_not_odd, receiver_checks, reply_key_checks, stamp_sent_checks, desk_esi_checks, batch_sent_checks}
 use Rattle.desk.specs.Desk.{came_checks, desk_pte_checks, with_enclosed, kept_from, held_after, checked_by, esi_checked, pte_checked}
-use Rattle.desk.specs.declared.Before.{Before}
 use Rattle.desk.specs.declared.Sent.{Sent}
-use Rattle.desk.specs.declared.Before.TheVariants.{Nothing, Was}
 use Rattle.desk.specs.declared.Keys.{Keys}
 use Rattle.desk.specs.declared.Held.{Held}
 use Rattle.desk.specs.declared.Parts.{Parts}
@@ -49,6 +46,7 @@ use Rattle.desk_bytes.proofs.Back.{BeforeFits, KeysFit, HeldFits, is_held_lem, h
 use Rattle.desk_bytes.proofs.Tests.{long, said, stored}
 use Rattle.desk_edge.specs.Calls.{parts_asked, opened_by, no_desk_refusal, entered_by, held_after_call, is_served, esi_by, pte_by, check_held}
 use Rattle.law_desk.specs.Desks.{Says, HeldBack}
+use Rattle.desk.specs.declared.Numbered.{Numbered}
 
 -- a desk that is sound and fits
 pub record Good (h : Held) : Type 0 where
@@ -71,7 +69,7 @@ good_said b a e =
 
 -- ---- a new key
 
-only_sound : (g k : ℕ) → g ≤ 9 → odd_parity k ≡ true → sound_keys (record { generation = g; key = k; before = Nothing }) ≡ true
+only_sound : (g k : ℕ) → g ≤ 9 → odd_parity k ≡ true → sound_keys (record { generation = g; key = k; before = None }) ≡ true
 unfolding sound_keys sound_before
 only_sound g k h o = join _ _ (le-leb g 9 h) (join _ _ o refl)
 
@@ -210,10 +208,10 @@ entered_back held p a z = by (is_held held) refl
 -- ---- a key that is kept
 
 -- the desk held a key of the generation used
-named_before : (b : Before) (n used k : ℕ) → sound_before n b ≡ true → before_named b used ≡ Is k → sound_before (next_generation used) b ≡ true
+named_before : (b : Option Numbered) (n used k : ℕ) → sound_before n b ≡ true → before_named b used ≡ Some k → sound_before (next_generation used) b ≡ true
 unfolding sound_before before_named
-named_before Nothing n used k s e = refl
-named_before (Was x) n used k s e = by (eqb x.generation used) refl
+named_before None n used k s e = refl
+named_before (Some x) n used k s e = by (eqb x.generation used) refl
   where
     by : (t : Bool) → eqb x.generation used ≡ t
         → both (leb x.generation 9) (both (eqb (next_generation x.generation) (next_generation used)) (odd_parity x.key)) ≡ true
@@ -221,26 +219,26 @@ named_before (Was x) n used k s e = by (eqb x.generation used) refl
         join _ _ (left _ _ s)
         (join _ _ (eq-eqb _ _ (ap next_generation (eqb-true x.generation used q))) (right _ _ (right _ _ s)))
     by false q =
-        let m : Missing ≡ Is k = sym (skips (eqb x.generation used) (Is x.key) Missing q) ∙ e in
+        let m : None ≡ Some k = sym (skips (eqb x.generation used) (Some x.key) None q) ∙ e in
         absurd (let z : ◌≡◌ {A = ℕ} 0 1 = cc in omega arith)
 
-module _ (w : Keys) (used key k : ℕ) (s : sound_keys w ≡ true) (f : KeysFit w) (e : key_named w used ≡ Is k) where
+module _ (w : Keys) (used key k : ℕ) (s : sound_keys w ≡ true) (f : KeysFit w) (e : key_named w used ≡ Some k) where
   before_sound : (t : Bool) → eqb w.generation used ≡ t
-      → sound_before (next_generation used) (pick t (Was (record { generation = w.generation; key = w.key })) w.before) ≡ true
+      → sound_before (next_generation used) (pick t (Some (record { generation = w.generation; key = w.key })) w.before) ≡ true
   unfolding sound_keys sound_before key_named pick
   before_sound true q =
       join _ _ (left _ _ s)
       (join _ _ (eq-eqb _ _ (ap next_generation (eqb-true w.generation used q))) (left _ _ (right _ _ s)))
   before_sound false q =
       named_before w.before w.generation used k (right _ _ (right _ _ s))
-      (sym (skips (eqb w.generation used) (Is w.key) (before_named w.before used) q) ∙ e)
+      (sym (skips (eqb w.generation used) (Some w.key) (before_named w.before used) q) ∙ e)
 
   enclosed_sound : odd_parity key ≡ true → sound_keys (with_enclosed w used key) ≡ true
   unfolding sound_keys with_enclosed
   enclosed_sound o =
       join _ _ (le-leb _ 9 (next_generation-le used)) (join _ _ o (before_sound (eqb w.generation used) refl))
 
-  before_fit : (t : Bool) → BeforeFits (pick t (Was (record { generation = w.generation; key = w.key })) w.before)
+  before_fit : (t : Bool) → BeforeFits (pick t (Some (record { generation = w.generation; key = w.key })) w.before)
   unfolding pick
   before_fit true = f.current
   before_fit false = f.before
@@ -250,28 +248,28 @@ module _ (w : Keys) (used key k : ℕ) (s : sound_keys w ≡ true) (f : KeysFit 
   enclosed_fit h = record { current = h; before = before_fit (eqb w.generation used) }
 
 -- a checksum that agrees was made with a key that is held
-summed_held : (x : Key) (r : List ℕ) → checksum_differs x r ≡ false → (k : ℕ) × (x ≡ Is k)
+summed_held : (x : Option ℕ) (r : List ℕ) → checksum_differs x r ≡ false → (k : ℕ) × (x ≡ Some k)
 unfolding checksum_differs
-summed_held Missing r e = absurd (false≢true (sym e))
-summed_held (Is k) r e = (k, refl)
+summed_held None r e = absurd (false≢true (sym e))
+summed_held (Some k) r e = (k, refl)
 
 -- and a key without even parity is one
-odd_held : (x : Key) → is_not_odd x ≡ false → (k : ℕ) × (x ≡ Is k) × (odd_parity k ≡ true)
+odd_held : (x : Option ℕ) → is_not_odd x ≡ false → (k : ℕ) × (x ≡ Some k) × (odd_parity k ≡ true)
 unfolding is_not_odd
-odd_held Missing e = absurd (false≢true (sym e))
-odd_held (Is k) e = (k, refl, fails-false _ e)
+odd_held None e = absurd (false≢true (sym e))
+odd_held (Some k) e = (k, refl, fails-false _ e)
 
-deciphered_fits : (t : Key) (x y : ℕ) → deciphering t x ≡ Is y → y < 2 ^ 64
+deciphered_fits : (t : Option ℕ) (x y : ℕ) → deciphering t x ≡ Some y → y < 2 ^ 64
 unfolding deciphering
-deciphered_fits Missing x y e = absurd (let z : ◌≡◌ {A = ℕ} 0 1 = cc in omega arith)
-deciphered_fits (Is t) x y e = let q : deciphered t x ≡ y = cc in subst (λ (n : ℕ). n < 2 ^ 64) q (deciphered-lt t x)
+deciphered_fits None x y e = absurd (let z : ◌≡◌ {A = ℕ} 0 1 = cc in omega arith)
+deciphered_fits (Some t) x y e = let q : deciphered t x ≡ y = cc in subst (λ (n : ℕ). n < 2 ^ 64) q (deciphered-lt t x)
 
 module _ (h : Held) (s : Sent) (r : List ℕ) (g : Good h) (n : NoneFails (reply_key_checks h s r)) (encl : encloses r ≡ true) where
-  sum_key : (k : ℕ) × (key_named h.working (working_generation_of r) ≡ Is k)
+  sum_key : (k : ℕ) × (key_named h.working (working_generation_of r) ≡ Some k)
   unfolding reply_key_checks
   sum_key = summed_held _ r n.1.1.0
 
-  new_key : (k : ℕ) × (enclosed_in h r ≡ Is k) × (odd_parity k ≡ true)
+  new_key : (k : ℕ) × (enclosed_in h r ≡ Some k) × (odd_parity k ≡ true)
   unfolding reply_key_checks
   new_key = odd_held _ (sym (decides _ _ encl) ∙ n.1.1.1.0)
 

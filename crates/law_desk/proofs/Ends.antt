@@ -1,5 +1,6 @@
 -- The step that ends an accepted message gives its full answer: no check failed, so what was granted is answered, on the table afterwards.
 -- Assumes nothing.
+use Rattle.std.specs.Prelude.{Some}
 use Prim.Native.Nat.{ℕ, ◌+◌, ◌≤◌}
 use mathlib.Core.Path.{◌≡◌, refl, sym, ap, ap₂, ◌∙◌, subst}
 use mathlib.Core.Bool.{Bool, true, false, false≢true}
@@ -16,7 +17,6 @@ use Rattle.ground.proofs.Parts.{part1}
 use Rattle.calendar.specs.declared.Date.{Date}
 use Rattle.customer.specs.declared.Customer.{Customer}
 use Rattle.changeover.specs.Held.{held_key}
-use Rattle.changeover.specs.declared.Key.TheVariants.{Is}
 use Rattle.changeover.proofs.Laws.{good_held}
 use Rattle.acceptance.specs.declared.Granted.{Granted}
 use Rattle.table.specs.Table.{Table, sound_table}
@@ -131,8 +131,8 @@ module _ (t : Table) (today : Date) (m : Collected) (e : first_failing (esi_chec
       let k = none_right (stamp_checks t c today m.text) l₃ s in
       (none_fails_lem _ (none_left (form_checks (form_of Esi) Answered m) l₁ n), none_left (esi_key_checks c m.text) (room_checks t c today) k)
 
-  esi_keys : ((x : ℕ) × (held_key c.transport (transport_generation_of m.text) ≡ Is x))
-      × ((x : ℕ) × (held_key c.working (working_generation_of m.text) ≡ Is x))
+  esi_keys : ((x : ℕ) × (held_key c.transport (transport_generation_of m.text) ≡ Some x))
+      × ((x : ℕ) × (held_key c.working (working_generation_of m.text) ≡ Some x))
   unfolding esi_key_checks
   esi_keys =
       let k = esi_none.1 in
@@ -248,8 +248,8 @@ module _ (t : Table) (today : Date) (kind : ℕ) (f : Frame) (e : first_failing 
         keys = none_left (key_checks t fc today f) (room_checks t fc today) k;
       }
 
-  frame_keys : ((x : ℕ) × (held_key fc.transport (transport_generation_of f.suo.text) ≡ Is x))
-      × ((x : ℕ) × (held_key fc.working (working_generation_of f.suo.text) ≡ Is x))
+  frame_keys : ((x : ℕ) × (held_key fc.transport (transport_generation_of f.suo.text) ≡ Some x))
+      × ((x : ℕ) × (held_key fc.working (working_generation_of f.suo.text) ≡ Some x))
   unfolding key_checks
   frame_keys =
       let k = frame_none.keys in

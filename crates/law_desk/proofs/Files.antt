@@ -1,6 +1,7 @@
 -- Every step of the whole-file answer says nothing, gives a bare E, or ends an ESI or a batch; the table stays sound, and an open frame's
 -- one-time key is eight bytes.
 -- Assumes nothing.
+use Rattle.std.specs.Prelude.{None, Option, Some}
 use Prim.Native.Nat.{ℕ, ◌<◌, ◌^◌}
 use mathlib.Core.Path.{◌≡◌, refl, sym, ap, ◌∙◌, subst}
 use mathlib.Core.Bool.{Bool, true, false, false≢true}
@@ -13,8 +14,6 @@ use Rattle.ground.proofs.Bools.{picked_each}
 use Rattle.ground.proofs.Lists.{one_is, one_not_none}
 use Rattle.calendar.specs.Dates.{real_date}
 use Rattle.des.proofs.Inverse.{deciphered-lt}
-use Rattle.changeover.specs.declared.Key.{Key}
-use Rattle.changeover.specs.declared.Key.TheVariants.{Missing, Is}
 use Rattle.table.specs.Table.{Table, sound_table}
 use Rattle.table.specs.Written.{written}
 use Rattle.table.specs.Decode.{is_table}
@@ -92,14 +91,14 @@ text_long k m chars e = ap length e ∙ known_length k chars
 
 -- ---- the one-time key
 
-one_time-lt : (k : Key) (suo : List ℕ) → key_or0 (one_time k suo) < 2 ^ 64
+one_time-lt : (k : Option ℕ) (suo : List ℕ) → key_or0 (one_time k suo) < 2 ^ 64
 unfolding one_time key_or0
-one_time-lt Missing suo = omega arith
-one_time-lt (Is t) suo = deciphered-lt t _
+one_time-lt None suo = omega arith
+one_time-lt (Some t) suo = deciphered-lt t _
 
 once_lt : (t : Table) (m : Collected) → key_or0 (once_of t m) < 2 ^ 64
 unfolding once_of one_time_of key_or0
-once_lt t m = picked_each (λ (k : Key). key_or0 k < 2 ^ 64) _ _ _ (one_time-lt _ m.text) (omega arith)
+once_lt t m = picked_each (λ (k : Option ℕ). key_or0 k < 2 ^ 64) _ _ _ (one_time-lt _ m.text) (omega arith)
 
 module _ (o : Opening) (s : Standing) where
   moves : (z : Situation) → Fit z → Leaves s (silent (moved s z))

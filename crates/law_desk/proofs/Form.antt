@@ -1,5 +1,6 @@
 -- A full reply to a well-formed message is of good form: each of its texts is the bank's name, the message's own, or one that we write.
 -- Assumes nothing.
+use Rattle.std.specs.Prelude.{None, Option, Some}
 use Prim.Native.Nat.{ℕ, zero, suc, ◌+◌, ◌/◌, ◌%◌, ◌≤◌, ◌<◌}
 use mathlib.Core.Path.{◌≡◌, refl, sym, ap, ◌∙◌}
 use mathlib.Core.Bool.{Bool, true, false}
@@ -21,8 +22,6 @@ use Rattle.text.specs.Letters.{letters}
 use Rattle.calendar.specs.Dates.{real_date, real_time}
 use Rattle.digest.specs.Mac.{checksum_of}
 use Rattle.customer.specs.Settings.{sound_name}
-use Rattle.changeover.specs.declared.Key.{Key}
-use Rattle.changeover.specs.declared.Key.TheVariants.{Missing, Is}
 use Rattle.message.specs.Layout.{field, whole_number, total, fields, field_text, pte}
 use Rattle.message.specs.Order.{Check}
 use Rattle.message.specs.Rules.{only, one_of, format_holds, obeys, each_field}
@@ -184,7 +183,7 @@ pub record Made (a : Answering) (pte : Bool) : Type 0 where
   pub closing : length a.closing ≡ 161
   pub name : sound_name a.software ≡ true
   pub key : ℕ
-  pub held : a.working ≡ Is key
+  pub held : a.working ≡ Some key
 
 pub record Facts (k : Reply) (a : Answering) : Type 0 where
   pub made : Made a (is_pte k)
@@ -344,19 +343,19 @@ module _ (k : Reply) (a : Answering) (f : Facts k a) where
 
   -- ---- the key enclosed, and the field that says so
 
-  flag_one : (e : Key) (x : ℕ) → e ≡ Is x → sealed_flag e ≡ letters "1"
+  flag_one : (e : Option ℕ) (x : ℕ) → e ≡ Some x → sealed_flag e ≡ letters "1"
   unfolding sealed_flag
   flag_one e x p = ap sealed_flag p
 
-  flag_none : (e : Key) → e ≡ Missing → sealed_flag e ≡ letters "0"
+  flag_none : (e : Option ℕ) → e ≡ None → sealed_flag e ≡ letters "0"
   unfolding sealed_flag
   flag_none e p = ap sealed_flag p
 
-  pub encloses_is : (x : ℕ) → enclosed_key a ≡ Is x → encloses (reply_of a) ≡ true
+  pub encloses_is : (x : ℕ) → enclosed_key a ≡ Some x → encloses (reply_of a) ≡ true
   unfolding encloses letters same both
   encloses_is x p = ap (same (letters "1")) (says_180 ∙ flag_one _ x p)
 
-  pub encloses_none : enclosed_key a ≡ Missing → encloses (reply_of a) ≡ false
+  pub encloses_none : enclosed_key a ≡ None → encloses (reply_of a) ≡ false
   unfolding encloses letters same both
   encloses_none p = ap (same (letters "1")) (says_180 ∙ flag_none _ p)
 
@@ -416,11 +415,11 @@ module _ (k : Reply) (a : Answering) (f : Facts k a) where
   blanks_good = refl
 
   -- the checksum under the key that the maker had
-  pub sum_is : checksum_key a (head a) ≡ Is (checksum_of f.made.key (head a))
+  pub sum_is : checksum_key a (head a) ≡ Some (checksum_of f.made.key (head a))
   unfolding checksum_key summed
   sum_is =
-      skips a.bare Missing (summed a.working (head a)) f.made.full
-      ∙ ap (λ (w : Key). summed w (head a)) f.made.held
+      skips a.bare None (summed a.working (head a)) f.made.full
+      ∙ ap (λ (w : Option ℕ). summed w (head a)) f.made.held
 
   pub sum_text : text 170 ≡ hex_digits 16 (checksum_of f.made.key (head a))
   unfolding hex_or
@@ -430,13 +429,13 @@ module _ (k : Reply) (a : Answering) (f : Facts k a) where
   unfolding sound_name
   name_good = left _ _ f.made.name
 
-  key_formed : (e : Key) → enclosed_key a ≡ e → reply_format_fails k (reply_of a) 190 ≡ false
+  key_formed : (e : Option ℕ) → enclosed_key a ≡ e → reply_format_fails k (reply_of a) 190 ≡ false
   unfolding member either hex_or
-  key_formed Missing p =
+  key_formed None p =
       formed 190 (text 190) refl refl
       (hexed k _ 190 (text 190) (unasked _ _ refl) (unasked _ _ refl)
       (λ z. absurd (clash _ z (ap (λ (b : Bool). member 190 (reply_hexes k b)) (encloses_none p) ∙ no_key k))))
-  key_formed (Is x) p =
+  key_formed (Some x) p =
       formed 190 (hex_digits 16 x) (says_190 ∙ ap hex_or p) refl
       (hexed k _ 190 (hex_digits 16 x) (unasked _ _ refl) (unasked _ _ refl) (λ z. hexes_good 16 x))
 
@@ -517,19 +516,19 @@ module _ (k : Reply) (a : Answering) (f : Facts k a) where
   unfolding sound_name
   name_values = ap (λ (l : List ℕ). fails (all_blank l)) says_60 ∙ right _ _ f.made.name
 
-  flag_values : (e : Key) → one_of (letters "0" ∷ letters "1" ∷ []) (sealed_flag e) ≡ true
+  flag_values : (e : Option ℕ) → one_of (letters "0" ∷ letters "1" ∷ []) (sealed_flag e) ≡ true
   unfolding one_of letters same both either sealed_flag
-  flag_values Missing = refl
-  flag_values (Is x) = refl
+  flag_values None = refl
+  flag_values (Some x) = refl
 
   sixteen_blank : all_blank (replicate 16 blank) ≡ true
   unfolding all both
   sixteen_blank = refl
 
-  blank_key : (e : Key) → enclosed_key a ≡ e → only (fails (encloses (reply_of a))) (all_blank (text 190)) ≡ true
+  blank_key : (e : Option ℕ) → enclosed_key a ≡ e → only (fails (encloses (reply_of a))) (all_blank (text 190)) ≡ true
   unfolding hex_or
-  blank_key Missing p = only_if _ _ (λ z. ap all_blank (says_190 ∙ ap hex_or p) ∙ sixteen_blank)
-  blank_key (Is x) p = only_if _ _ (unasked _ _ (not_failed _ (encloses_is x p)))
+  blank_key None p = only_if _ _ (λ z. ap all_blank (says_190 ∙ ap hex_or p) ∙ sixteen_blank)
+  blank_key (Some x) p = only_if _ _ (unasked _ _ (not_failed _ (encloses_is x p)))
 
   opening_valued : Valued 10 × Valued 20 × Valued 30 × Valued 40 × Valued 50 × Valued 60 × Valued 70
   unfolding member both_rules obeys both either fails

@@ -1,6 +1,7 @@
 -- What acceptance grants, seen from the desk: the key that was used is still held afterwards, an enclosed key has odd parity, and it is the
 -- current one from then on, of the generation after the one used.
 -- Assumes nothing.
+use Rattle.std.specs.Prelude.{None, Option, Some}
 use Prim.Native.Nat.{ℕ, ◌<◌, ◌^◌}
 use mathlib.Core.Path.{◌≡◌, refl, sym, ap, ◌∙◌, subst}
 use mathlib.Core.Bool.{Bool, true, false}
@@ -16,13 +17,10 @@ use Rattle.keys.specs.Parity.{odd_parity}
 use Rattle.keys.specs.declared.KeyMaker.{KeyMaker}
 use Rattle.keys.proofs.Laws.{made_lt}
 use Rattle.customer.specs.Customer.{sound_previous, sound_keys, sound_customer}
-use Rattle.customer.specs.declared.Previous.{Previous}
-use Rattle.customer.specs.declared.Previous.TheVariants.{Nothing, Held}
 use Rattle.customer.specs.declared.KeyPair.{KeyPair}
 use Rattle.customer.specs.declared.Customer.{Customer}
 use Rattle.changeover.specs.Held.{previous_named, held_key}
 use Rattle.changeover.specs.Changes.{changed, with_keys, with_working, without_previous}
-use Rattle.changeover.specs.declared.Key.TheVariants.{Missing, Is}
 use Rattle.changeover.proofs.Laws.{after_change}
 use Rattle.acceptance.specs.Grants.{granted_by}
 use Rattle.acceptance.specs.Steps.{granted, under_previous, new_key, under_current}
@@ -30,24 +28,25 @@ use Rattle.acceptance.specs.declared.Granted.{Granted}
 use Rattle.acceptance.proofs.Rows.{by_rows}
 use Rattle.acceptance.proofs.Grants.{grant_odd}
 use Rattle.table.specs.Table.{customer_fits}
+use Rattle.customer.specs.declared.Changeover.{Changeover}
 
 -- the current generation is held, and follows a previous one that is
-current_held : (k : KeyPair) (g : ℕ) → eqb k.generation g ≡ true → held_key k g ≡ Is k.key
+current_held : (k : KeyPair) (g : ℕ) → eqb k.generation g ≡ true → held_key k g ≡ Some k.key
 unfolding held_key
 current_held k g e = picks _ _ _ e
 
-follows_previous : (n : ℕ) (p : Previous) (g w : ℕ) → sound_previous n p ≡ true → previous_named p g ≡ Is w → n ≡ next_generation g
+follows_previous : (n : ℕ) (p : Option Changeover) (g w : ℕ) → sound_previous n p ≡ true → previous_named p g ≡ Some w → n ≡ next_generation g
 unfolding sound_previous previous_named
-follows_previous n Nothing g w s e = absurd (let z : ◌≡◌ {A = ℕ} 0 1 = cc in omega arith)
-follows_previous n (Held p) g w s e = by (eqb p.generation g) refl
+follows_previous n None g w s e = absurd (let z : ◌≡◌ {A = ℕ} 0 1 = cc in omega arith)
+follows_previous n (Some p) g w s e = by (eqb p.generation g) refl
   where
     by : (t : Bool) → eqb p.generation g ≡ t → n ≡ next_generation g
     by true q = sym (eqb-true _ _ (left _ _ (right _ _ s))) ∙ ap next_generation (eqb-true p.generation g q)
     by false q =
-        let m : Missing ≡ Is w = sym (skips (eqb p.generation g) (Is p.key) Missing q) ∙ e in
+        let m : None ≡ Some w = sym (skips (eqb p.generation g) (Some p.key) None q) ∙ e in
         absurd (let z : ◌≡◌ {A = ℕ} 0 1 = cc in omega arith)
 
-follows : (k : KeyPair) (g w : ℕ) → sound_keys k ≡ true → eqb k.generation g ≡ false → held_key k g ≡ Is w
+follows : (k : KeyPair) (g w : ℕ) → sound_keys k ≡ true → eqb k.generation g ≡ false → held_key k g ≡ Some w
     → k.generation ≡ next_generation g
 unfolding sound_keys held_key
 follows k g w s e h =
@@ -60,8 +59,8 @@ module _ (c : Customer) (maker : KeyMaker) (clock : ℕ) (today : Date) (g reque
   by_used P now before = subst P (sym (by_rows c maker clock today g request)) (picked P _ _ _ now before)
 
   -- with the current key the record stays, loses its previous key, or has a new one, which alone is enclosed
-  by_current : (P : Granted → Type 0) → ((code : ℕ) → P (granted code c Missing 0 maker.seed))
-      → P (granted 1036 (without_previous c) Missing 0 maker.seed) → P (new_key c maker clock today)
+  by_current : (P : Granted → Type 0) → ((code : ℕ) → P (granted code c None 0 maker.seed))
+      → P (granted 1036 (without_previous c) None 0 maker.seed) → P (new_key c maker clock today)
       → P (under_current c maker clock today request)
   unfolding under_current
   by_current P same dropped renewed =
@@ -70,8 +69,8 @@ module _ (c : Customer) (maker : KeyMaker) (clock : ℕ) (today : Date) (g reque
       (picked_each P _ _ _ dropped (same 1037)))
 
   -- with the previous one the record stays, and none is enclosed but the current one
-  by_previous : (P : Granted → Type 0) → ((code : ℕ) → P (granted code c (Is c.working.key) 0 maker.seed))
-      → P (granted 1037 c Missing 0 maker.seed) → P (under_previous c maker request)
+  by_previous : (P : Granted → Type 0) → ((code : ℕ) → P (granted code c (Some c.working.key) 0 maker.seed))
+      → P (granted 1037 c None 0 maker.seed) → P (under_previous c maker request)
   unfolding under_previous
   by_previous P encloses none = picked_each P _ _ _ (encloses 1002) (picked_each P _ _ _ (encloses 1003) none)
 
@@ -105,41 +104,41 @@ module _ (c : Customer) (maker : KeyMaker) (clock : ℕ) (today : Date) (g reque
   unfolding customer_fits
   working_fits f = ltb-true _ _ (left _ _ (right _ _ (right _ _ (right _ _ (right _ _ (right _ _ f))))))
 
-  none_is : {A : Type 0} (x : ℕ) → Missing ≡ Is x → A
+  none_is : {A : Type 0} (x : ℕ) → None ≡ Some x → A
   none_is x e = absurd (let z : ◌≡◌ {A = ℕ} 0 1 = cc in omega arith)
 
-  key_is : (x y : ℕ) → Is x ≡ Is y → x ≡ y
+  key_is : (x y : ℕ) → Some x ≡ Some y → x ≡ y
   key_is x y e = cc
 
-  pub enclosed_lt : customer_fits c ≡ true → (x : ℕ) → after.enclosed ≡ Is x → x < 2 ^ 64
+  pub enclosed_lt : customer_fits c ≡ true → (x : ℕ) → after.enclosed ≡ Some x → x < 2 ^ 64
   unfolding new_key
   enclosed_lt f =
-      by_used (λ y. (x : ℕ) → y.enclosed ≡ Is x → x < 2 ^ 64)
-      (λ e. by_current (λ y. (x : ℕ) → y.enclosed ≡ Is x → x < 2 ^ 64) (λ code x p. none_is x p) (λ x p. none_is x p)
+      by_used (λ y. (x : ℕ) → y.enclosed ≡ Some x → x < 2 ^ 64)
+      (λ e. by_current (λ y. (x : ℕ) → y.enclosed ≡ Some x → x < 2 ^ 64) (λ code x p. none_is x p) (λ x p. none_is x p)
       (λ x p. subst (λ (n : ℕ). n < 2 ^ 64) (key_is _ x p) (made_lt (record { key = maker.key; seed = maker.seed }) clock)))
-      (λ e. by_previous (λ y. (x : ℕ) → y.enclosed ≡ Is x → x < 2 ^ 64)
+      (λ e. by_previous (λ y. (x : ℕ) → y.enclosed ≡ Some x → x < 2 ^ 64)
       (λ code x p. subst (λ (n : ℕ). n < 2 ^ 64) (key_is _ x p) (working_fits f)) (λ x p. none_is x p))
 
-  pub enclosed_odd : sound_customer c ≡ true → (x : ℕ) → after.enclosed ≡ Is x → odd_parity x ≡ true
+  pub enclosed_odd : sound_customer c ≡ true → (x : ℕ) → after.enclosed ≡ Some x → odd_parity x ≡ true
   enclosed_odd s = grant_odd c maker clock today g request s
 
   -- ---- it is the current key, of the generation after the one used
 
   abbrev Current : Granted → Type 0
-  Current y = (x : ℕ) → y.enclosed ≡ Is x → (y.customer.working.generation ≡ next_generation g) × (y.customer.working.key ≡ x)
+  Current y = (x : ℕ) → y.enclosed ≡ Some x → (y.customer.working.generation ≡ next_generation g) × (y.customer.working.key ≡ x)
 
   renewed_current : eqb c.working.generation g ≡ true → Current (new_key c maker clock today)
   unfolding new_key with_working with_keys changed
   renewed_current e x p = (ap next_generation (eqb-true _ _ e), key_is _ x p)
 
-  pub enclosed_current : sound_keys c.working ≡ true → (w : ℕ) → held_key c.working g ≡ Is w → Current after
+  pub enclosed_current : sound_keys c.working ≡ true → (w : ℕ) → held_key c.working g ≡ Some w → Current after
   enclosed_current s w h =
       by_used Current
       (λ e. by_current Current (λ code x p. none_is x p) (λ x p. none_is x p) (renewed_current e))
       (λ e. by_previous Current (λ code x p. (follows c.working g w s e h, key_is _ x p)) (λ x p. none_is x p))
 
   -- where none is enclosed the current key stays
-  pub none_enclosed : after.enclosed ≡ Missing
+  pub none_enclosed : after.enclosed ≡ None
       → (after.customer.working.generation ≡ c.working.generation) × (after.customer.working.key ≡ c.working.key)
   unfolding new_key without_previous with_keys
   none_enclosed =
@@ -148,7 +147,7 @@ module _ (c : Customer) (maker : KeyMaker) (clock : ℕ) (today : Date) (g reque
       (λ e. by_previous Same (λ code p. (refl, refl)) (λ p. (refl, refl)))
     where
       Same : Granted → Type 0
-      Same y = y.enclosed ≡ Missing
+      Same y = y.enclosed ≡ None
           → (y.customer.working.generation ≡ c.working.generation) × (y.customer.working.key ≡ c.working.key)
 
   -- and the transport keys stay

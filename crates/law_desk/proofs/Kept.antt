@@ -1,6 +1,7 @@
 -- A reply that passes leaves the desk with the bank's current working key: an enclosed one is kept, under the generation after the one used,
 -- and the key that was used stays beside it.
 -- Assumes nothing.
+use Rattle.std.specs.Prelude.{None, Option, Some}
 use Prim.Native.Nat.{ℕ, ◌+◌}
 use mathlib.Core.Path.{◌≡◌, refl, sym, ap, ap₂, ◌∙◌}
 use mathlib.Core.Bool.{Bool, true, false}
@@ -15,8 +16,6 @@ use Rattle.ground.proofs.Bools.{clash}
 use Rattle.keys.specs.Keys.{next_generation}
 use Rattle.customer.specs.declared.Customer.{Customer}
 use Rattle.changeover.specs.Held.{held_key}
-use Rattle.changeover.specs.declared.Key.{Key}
-use Rattle.changeover.specs.declared.Key.TheVariants.{Missing, Is}
 use Rattle.changeover.proofs.Laws.{next_differs}
 use Rattle.table.specs.Table.{Table, sound_table}
 use Rattle.table.specs.Named.{named}
@@ -34,19 +33,18 @@ use Rattle.desk_form.specs.Replies.{encloses}
 use Rattle.desk_form.specs.declared.Reply.{Reply}
 use Rattle.desk.specs.Held.{before_named, key_named}
 use Rattle.desk.specs.Desk.{enclosed_in, with_enclosed, kept_from, held_after, finding_of, checked_by}
-use Rattle.desk.specs.declared.Before.{Before}
-use Rattle.desk.specs.declared.Before.TheVariants.{Was}
 use Rattle.desk.specs.declared.Held.{Held}
 use Rattle.desk.specs.declared.Keys.{Keys}
 use Rattle.law_desk.specs.Desks.{SameKeys, Passed}
 use Rattle.law_desk.proofs.Form.{Facts, is_pte, encloses_is, encloses_none}
 use Rattle.law_desk.proofs.Passes.{Keyed, working_is, enclosed_is}
 use Rattle.law_desk.proofs.Accepted.{keyed_so, working_held, transport_held_lem, current_after, same_after}
+use Rattle.desk.specs.declared.Numbered.{Numbered}
 
 -- ---- the keys of a desk
 
 was_named : (w : Keys) (used : ℕ) → eqb w.generation used ≡ true
-    → before_named (Was (record { generation = w.generation; key = w.key })) used ≡ Is w.key
+    → before_named (Some (record { generation = w.generation; key = w.key })) used ≡ Some w.key
 unfolding before_named
 was_named w used e = picks _ _ _ e
 
@@ -56,13 +54,13 @@ unfolding key_named with_enclosed
 used_stays w used key = skips _ _ _ (ne_eqb _ _ (next_differs used)) ∙ by (eqb w.generation used) refl
   where
     by : (t : Bool) → eqb w.generation used ≡ t
-        → before_named (pick (eqb w.generation used) (Was (record { generation = w.generation; key = w.key })) w.before) used
-        ≡ pick (eqb w.generation used) (Is w.key) (before_named w.before used)
+        → before_named (pick (eqb w.generation used) (Some (record { generation = w.generation; key = w.key })) w.before) used
+        ≡ pick (eqb w.generation used) (Some w.key) (before_named w.before used)
     by true e =
-        ap (λ (b : Before). before_named b used) (picks _ _ _ e)
+        ap (λ (b : Option Numbered). before_named b used) (picks _ _ _ e)
         ∙ was_named w used e
         ∙ sym (picks _ _ _ e)
-    by false e = ap (λ (b : Before). before_named b used) (skips _ _ _ e) ∙ sym (skips _ _ _ e)
+    by false e = ap (λ (b : Option Numbered). before_named b used) (skips _ _ _ e) ∙ sym (skips _ _ _ e)
 
 -- ---- the desk after a reply that passes
 
@@ -80,27 +78,27 @@ module _ (k : Reply) (t : Table) (sound : sound_table t ≡ true) (o : Opening) 
   abbrev r : List ℕ
   r = reply_of answer
 
-  module _ (f : Facts k answer) (w tk : ℕ) (held : held_key c.working (working_generation_of m) ≡ Is w)
-      (sealing : held_key c.transport (transport_generation_of m) ≡ Is tk) (h : Held) (same : SameKeys h c m) where
+  module _ (f : Facts k answer) (w tk : ℕ) (held : held_key c.working (working_generation_of m) ≡ Some w)
+      (sealing : held_key c.transport (transport_generation_of m) ≡ Some tk) (h : Held) (same : SameKeys h c m) where
     keyed : Keyed h answer
     keyed = keyed_so t sound o x (is_pte k) m closing once l n a w held h same
 
     -- a key is enclosed exactly if one is granted
-    sealed_none : (e : Key) → sealed (Is tk) e ≡ Missing → e ≡ Missing
+    sealed_none : (e : Option ℕ) → sealed (Some tk) e ≡ None → e ≡ None
     unfolding sealed
-    sealed_none Missing p = refl
-    sealed_none (Is y) p = absurd (let z : ◌≡◌ {A = ℕ} 0 1 = cc in omega arith)
+    sealed_none None p = refl
+    sealed_none (Some y) p = absurd (let z : ◌≡◌ {A = ℕ} 0 1 = cc in omega arith)
 
-    transport_is : answer.transport ≡ Is tk
+    transport_is : answer.transport ≡ Some tk
     unfolding full_answer
     transport_is = transport_held_lem t sound o x (is_pte k) m closing once l n a ∙ sealing
 
-    granted_none : enclosed_key answer ≡ Missing → (grant_to t x m closing).enclosed ≡ Missing
+    granted_none : enclosed_key answer ≡ None → (grant_to t x m closing).enclosed ≡ None
     unfolding enclosed_key full_answer outcome_of
     granted_none p =
         sealed_none (grant_to t x m closing).enclosed
-        (ap (λ (y : Key). sealed y (grant_to t x m closing).enclosed) (sym transport_is)
-        ∙ sym (skips false Missing (sealed answer.transport (grant_to t x m closing).enclosed) refl) ∙ p)
+        (ap (λ (y : Option ℕ). sealed y (grant_to t x m closing).enclosed) (sym transport_is)
+        ∙ sym (skips false None (sealed answer.transport (grant_to t x m closing).enclosed) refl) ∙ p)
 
     none_kept : encloses r ≡ false → held_after h r Sound ≡ h
     unfolding held_after
@@ -111,19 +109,19 @@ module _ (k : Reply) (t : Table) (sound : sound_table t ≡ true) (o : Opening) 
     one_kept e = picks _ _ _ (decides true _ refl ∙ e)
 
     -- by the field that says so
-    enclosing : (e : Key) → enclosed_key answer ≡ e → encloses r ≡ true → (y : ℕ) × (enclosed_key answer ≡ Is y)
-    enclosing Missing p q = absurd (clash _ q (encloses_none k answer f p))
-    enclosing (Is y) p q = (y, p)
+    enclosing : (e : Option ℕ) → enclosed_key answer ≡ e → encloses r ≡ true → (y : ℕ) × (enclosed_key answer ≡ Some y)
+    enclosing None p q = absurd (clash _ q (encloses_none k answer f p))
+    enclosing (Some y) p q = (y, p)
 
-    not_enclosing : (e : Key) → enclosed_key answer ≡ e → encloses r ≡ false → enclosed_key answer ≡ Missing
-    not_enclosing Missing p q = p
-    not_enclosing (Is y) p q = absurd (clash _ (encloses_is k answer f y p) q)
+    not_enclosing : (e : Option ℕ) → enclosed_key answer ≡ e → encloses r ≡ false → enclosed_key answer ≡ None
+    not_enclosing None p q = p
+    not_enclosing (Some y) p q = absurd (clash _ (encloses_is k answer f y p) q)
 
-    granted_is : (y : ℕ) → answer.enclosed ≡ Is y → (grant_to t x m closing).enclosed ≡ Is y
+    granted_is : (y : ℕ) → answer.enclosed ≡ Some y → (grant_to t x m closing).enclosed ≡ Some y
     unfolding full_answer outcome_of
     granted_is y e = e
 
-    kept_working : (y : ℕ) → enclosed_in h r ≡ Is y → (kept_from h r).working ≡ with_enclosed h.working (working_generation_of m) y
+    kept_working : (y : ℕ) → enclosed_in h r ≡ Some y → (kept_from h r).working ≡ with_enclosed h.working (working_generation_of m) y
     unfolding kept_from key_or0 full_answer
     kept_working y e = ap₂ (with_enclosed h.working) (working_is k answer f) (ap key_or0 e)
 

@@ -1,6 +1,7 @@
 -- A full reply of good form repeats what was sent; its checksum is that of the working key that the message named, and an enclosed key
 -- comes back from its cipher. So no check of the desk fails.
 -- Assumes nothing.
+use Rattle.std.specs.Prelude.{None, Option, Some}
 use Prim.Native.Nat.{ℕ, ◌<◌, ◌≤◌, ◌^◌}
 use mathlib.Core.Path.{◌≡◌, refl, sym, ap, ap₂, ◌∙◌, subst}
 use mathlib.Core.Bool.{true, false}
@@ -20,8 +21,6 @@ use Rattle.des.specs.Des.{enciphered, deciphered}
 use Rattle.des.proofs.Inverse.{enciphered-lt, deciphered-enciphered}
 use Rattle.digest.specs.Mac.{chained, mac, checksum_of}
 use Rattle.keys.specs.Parity.{odd_parity}
-use Rattle.changeover.specs.declared.Key.{Key}
-use Rattle.changeover.specs.declared.Key.TheVariants.{Missing, Is}
 use Rattle.message.specs.Layout.{total, field_text, offset_in, width_in}
 use Rattle.message.specs.Fields.{receiver_of, sender_of, stamp_text_of, transport_generation_of, working_generation_of, checksum_field_of}
 use Rattle.message.proofs.Order.{NoneFails}
@@ -83,7 +82,7 @@ pub record Keyed (h : Held) (a : Answering) : Type 0 where
   pub own : h.own ≡ sender_of a.message
   pub working : key_named h.working (working_generation_of a.message) ≡ a.working
   pub transport : key_named h.transport (transport_generation_of a.message) ≡ a.transport
-  pub enclosed : (x : ℕ) → a.enclosed ≡ Is x → (odd_parity x ≡ true) × (x < 2 ^ 64)
+  pub enclosed : (x : ℕ) → a.enclosed ≡ Some x → (odd_parity x ≡ true) × (x < 2 ^ 64)
 
 module _ (k : Reply) (a : Answering) (f : Facts k a) where
   receiver_is : receiver_of (reply_of a) ≡ sender_of a.message
@@ -116,35 +115,35 @@ module _ (k : Reply) (a : Answering) (f : Facts k a) where
       ∙ hex_there_and_back (checksum_of f.made.key (head a)) (checksum_lt f.made.key (head a))
       ∙ ap (checksum_of f.made.key) (sym head_is) ∙ sym (sum_first f.made.key (reply_of a))
 
-  sum_same : (x : Key) → x ≡ Is f.made.key → checksum_differs x (reply_of a) ≡ false
+  sum_same : (x : Option ℕ) → x ≡ Some f.made.key → checksum_differs x (reply_of a) ≡ false
   unfolding checksum_differs
   sum_same x e =
-      ap (λ (y : Key). checksum_differs y (reply_of a)) e
+      ap (λ (y : Option ℕ). checksum_differs y (reply_of a)) e
       ∙ not_failed _ (eq-eqb (checksum_of f.made.key (reply_of a)) (checksum_field_of (reply_of a)) (sym sum_back))
 
   -- ---- the key enclosed
 
   module _ (h : Held) (d : Keyed h a) where
-    sealed_is : (x : ℕ) → enclosed_key a ≡ Is x → sealed a.transport a.enclosed ≡ Is x
+    sealed_is : (x : ℕ) → enclosed_key a ≡ Some x → sealed a.transport a.enclosed ≡ Some x
     unfolding enclosed_key
-    sealed_is x e = sym (skips a.bare Missing (sealed a.transport a.enclosed) f.made.full) ∙ e
+    sealed_is x e = sym (skips a.bare None (sealed a.transport a.enclosed) f.made.full) ∙ e
 
     -- a sealed key comes back from its cipher
-    opened : (t e : Key) (x : ℕ) → sealed t e ≡ Is x → ((y : ℕ) → e ≡ Is y → (odd_parity y ≡ true) × (y < 2 ^ 64))
-        → (y : ℕ) × (e ≡ Is y) × (deciphering t x ≡ Is y) × (x < 2 ^ 64)
+    opened : (t e : Option ℕ) (x : ℕ) → sealed t e ≡ Some x → ((y : ℕ) → e ≡ Some y → (odd_parity y ≡ true) × (y < 2 ^ 64))
+        → (y : ℕ) × (e ≡ Some y) × (deciphering t x ≡ Some y) × (x < 2 ^ 64)
     unfolding sealed deciphering
-    opened Missing e x p g = absurd (let z : ◌≡◌ {A = ℕ} 0 1 = cc in omega arith)
-    opened (Is t) Missing x p g = absurd (let z : ◌≡◌ {A = ℕ} 0 1 = cc in omega arith)
-    opened (Is t) (Is y) x p g =
+    opened None e x p g = absurd (let z : ◌≡◌ {A = ℕ} 0 1 = cc in omega arith)
+    opened (Some t) None x p g = absurd (let z : ◌≡◌ {A = ℕ} 0 1 = cc in omega arith)
+    opened (Some t) (Some y) x p g =
         let q : enciphered t y ≡ x = cc in (
           y,
           refl,
-          ap (λ (z : ℕ). Is (deciphered t z)) (sym q) ∙ ap Is (deciphered-enciphered t y (g y refl).1),
+          ap (λ (z : ℕ). Some (deciphered t z)) (sym q) ∙ ap Some (deciphered-enciphered t y (g y refl).1),
           subst (λ (z : ℕ). z < 2 ^ 64) q (enciphered-lt t y),
         )
 
     -- the desk reads the key that the bank enclosed
-    pub enclosed_is : (x : ℕ) → enclosed_key a ≡ Is x → (y : ℕ) × (a.enclosed ≡ Is y) × (enclosed_in h (reply_of a) ≡ Is y)
+    pub enclosed_is : (x : ℕ) → enclosed_key a ≡ Some x → (y : ℕ) × (a.enclosed ≡ Some y) × (enclosed_in h (reply_of a) ≡ Some y)
     unfolding enclosed_in hex_or
     enclosed_is x e =
         let r = opened a.transport a.enclosed x (sealed_is x e) d.enclosed in (
@@ -155,10 +154,10 @@ module _ (k : Reply) (a : Answering) (f : Facts k a) where
               ∙ r.2,
         )
 
-    parity_holds : (e : Key) → enclosed_key a ≡ e → both (encloses (reply_of a)) (is_not_odd (enclosed_in h (reply_of a))) ≡ false
+    parity_holds : (e : Option ℕ) → enclosed_key a ≡ e → both (encloses (reply_of a)) (is_not_odd (enclosed_in h (reply_of a))) ≡ false
     unfolding is_not_odd
-    parity_holds Missing p = fails_left _ _ (encloses_none k a f p)
-    parity_holds (Is x) p =
+    parity_holds None p = fails_left _ _ (encloses_none k a f p)
+    parity_holds (Some x) p =
         let r = enclosed_is x p in
         fails_right _ _ (ap is_not_odd r.2 ∙ not_failed _ (d.enclosed r.0 r.1).0)
 

@@ -1,10 +1,9 @@
 -- A bank with one customer, whose keys are those of document 001's appendix 3,
 -- and an ESI and a batch of his with their checksums and digest, which were made with another DES.
 -- Assumes nothing.
-use Rattle.std.specs.Prelude.{ℕ, true, List, [], ◌∷◌, ◌++◌, replicate}
+use Rattle.std.specs.Prelude.{ℕ, true, List, [], ◌∷◌, ◌++◌, replicate, None}
 use Rattle.text.specs.Characters.{blank}
 use Rattle.text.specs.Letters.{letters}
-use Rattle.customer.specs.declared.Previous.TheVariants.{Nothing}
 use Rattle.table.specs.Table.{Table}
 
 unfoldable pub bank_with : List ℕ → Table
@@ -26,8 +25,8 @@ bank_with holidays =
             agreed = true;
             leave = true;
             length = record { 0 = 30 };
-            transport = record { generation = 1; key = 0x379723239789FD9D; previous = Nothing };
-            working = record { generation = 0; key = 0xAEBAE983D6406D07; previous = Nothing };
+            transport = record { generation = 1; key = 0x379723239789FD9D; previous = None };
+            working = record { generation = 0; key = 0xAEBAE983D6406D07; previous = None };
             count = 0;
             stamps = replicate 64 0;
             once = replicate 64 0;

@@ -1,6 +1,7 @@
 -- What an accepted message passed and what it leaves: its stamp was neither held nor too old;
 -- then it is held, and all but the sender's record and the key maker's seed is as it was.
 -- Assumes nothing.
+use Rattle.std.specs.Prelude.{Some}
 use Prim.Native.Nat.{ℕ}
 use mathlib.Core.Path.{◌≡◌, refl, sym, ap, ◌∙◌, subst}
 use mathlib.Core.List.{List, ◌++◌}
@@ -14,7 +15,6 @@ use Rattle.customer.specs.declared.Settings.{Settings}
 use Rattle.acceptance.specs.Stamps.{holds_stamp, stamp_old}
 use Rattle.table.specs.Table.{Table, place_of, customer_in, with_seed}
 use Rattle.table.specs.Named.{named}
-use Rattle.table.specs.declared.Found.TheVariants.{At}
 use Rattle.table.proofs.Places.{same_place, with_named_at}
 use Rattle.table_calls.proofs.Laws.{Kept}
 use Rattle.message.specs.Fields.{sender_of, stamp_of}
@@ -41,7 +41,7 @@ pub record Took (t u : Table) (m : List ℕ) : Type 0 where
   pub unused : holds_stamp (named t (sender_of m)) (stamp_of m) ≡ false
   pub recent : stamp_old t.holidays (dated t.day) (stamp_of m) ≡ false
   pub marked : Marked t u (dated t.day) m
-  pub others : (j : ℕ) → (place_of t (sender_of m) ≡ At j → ⊥) → customer_in u j ≡ customer_in t j
+  pub others : (j : ℕ) → (place_of t (sender_of m) ≡ Some j → ⊥) → customer_in u j ≡ customer_in t j
   pub places : (who : List ℕ) → place_of u who ≡ place_of t who
   pub count : length u.customers ≡ length t.customers
   pub day : u.day ≡ t.day
@@ -118,7 +118,7 @@ module _ (t : Table) (o : Occasion) (m closing : List ℕ) (once : ℕ) where
 took : (t u : Table) (o : Occasion) (m closing : List ℕ) (once : ℕ) → o.today.yymmdd ≡ t.day → length m ≡ 161
     → u ≡ table_after t o m closing once → Accepted t o.today m
     → NoneFails (stamp_checks t (named t (sender_of m)) o.today m)
-    → Marked t u o.today m → ((j : ℕ) → (place_of t (sender_of m) ≡ At j → ⊥) → customer_in u j ≡ customer_in t j)
+    → Marked t u o.today m → ((j : ℕ) → (place_of t (sender_of m) ≡ Some j → ⊥) → customer_in u j ≡ customer_in t j)
     → Took t u m
 took t u o m closing once d l e a n k x =
     let s = stamp_passed t (named t (sender_of m)) o.today m l n in

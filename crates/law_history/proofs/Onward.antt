@@ -1,6 +1,7 @@
 -- A stamp that was accepted stays used: in the table after a call each record stands in its place and holds all its stamps
 -- but those that are too old, the day does not go back, and the holidays are the same, so that what is too old stays so.
 -- Assumes nothing.
+use Rattle.std.specs.Prelude.{Some}
 use Prim.Native.Nat.{ℕ, ◌≤◌, ◌<◌}
 use mathlib.Core.Path.{◌≡◌, refl, sym, ap, ◌∙◌}
 use mathlib.Core.List.{List, [], ◌∷◌}
@@ -20,7 +21,6 @@ use Rattle.changeover.specs.Changes.{with_keys, with_transport, with_working}
 use Rattle.acceptance.specs.Stamps.{holds_stamp, stamp_old, stamp_date}
 use Rattle.table.specs.Table.{Table, sound_table, place_of, customer_in, with_customer, with_added, with_day, with_seed}
 use Rattle.table.specs.Named.{named, with_named}
-use Rattle.table.specs.declared.Found.TheVariants.{At}
 use Rattle.table.proofs.Places.{stored_is, found_is, named_at, with_named_at, day_in, seed_in}
 use Rattle.table.proofs.Sound.{parts, unique}
 use Rattle.table_calls.specs.Calls.{new_customer, added_to, entered_in, ordered_in}
@@ -44,7 +44,7 @@ pub record Onward (t u : Table) : Type 0 where
 
 -- the customer's record holds the stamp, or the stamp is too old
 pub data Used (t : Table) (who : List ℕ) (s : ℕ) : Type 0 where
-  held : (i : ℕ) → place_of t who ≡ At i → holds_stamp (customer_in t i) s ≡ true → Used t who s
+  held : (i : ℕ) → place_of t who ≡ Some i → holds_stamp (customer_in t i) s ≡ true → Used t who s
   old : stamp_old t.holidays (dated t.day) s ≡ true → Used t who s
 
 module _ (t u : Table) (e : sound_table t ≡ true) (o : Onward t u) (who : List ℕ) (s : ℕ) where
@@ -54,13 +54,13 @@ module _ (t u : Table) (e : sound_table t ≡ true) (o : Onward t u) (who : List
       (ap (λ (hs : List ℕ). too_old hs (stamp_date s) (dated u.day)) o.holidays
       ∙ too_old_stays t.holidays (stamp_date s) (dated t.day) (dated u.day) (parts t e).day (parts u o.sound).day o.day q)
 
-  place_onward : (i : ℕ) → place_of t who ≡ At i → place_of u who ≡ At i
+  place_onward : (i : ℕ) → place_of t who ≡ Some i → place_of u who ≡ Some i
   place_onward i p =
       let f = found_is t who i p in
       let k : i < length u.customers = omega (arith, f.0, o.there) in
       ap (place_of u) (sym (o.who i f.0 ∙ f.1)) ∙ unique u i o.sound k
 
-  by_age : (b : Bool) → stamp_old t.holidays (dated t.day) s ≡ b → (i : ℕ) → place_of t who ≡ At i
+  by_age : (b : Bool) → stamp_old t.holidays (dated t.day) s ≡ b → (i : ℕ) → place_of t who ≡ Some i
       → holds_stamp (customer_in t i) s ≡ true → Used u who s
   by_age true q i p h = old_onward q
   by_age false q i p h = held i (place_onward i p) (o.kept i (found_is t who i p).0 s h q)
@@ -111,7 +111,7 @@ module _ (t u : Table) (m : List ℕ) (k : Took t u m) where
   before_is : named t (sender_of m) ≡ customer_in t place
   before_is = named_at t (sender_of m) place k.passed.known
 
-  after_at : place_of u (sender_of m) ≡ At place
+  after_at : place_of u (sender_of m) ≡ Some place
   after_at = k.places (sender_of m) ∙ k.passed.known
 
   after_is : named u (sender_of m) ≡ customer_in u place
@@ -125,7 +125,7 @@ module _ (t u : Table) (m : List ℕ) (k : Took t u m) where
       (λ s h q. ap (λ (c : Customer). holds_stamp c s) (sym after_is)
       ∙ k.marked.kept s (ap (λ (c : Customer). holds_stamp c s) before_is ∙ h) q)
     where
-      apart : {x y : ℕ} → At x ≡ At y → x ≡ y
+      apart : {x y : ℕ} → Some x ≡ Some y → x ≡ y
       apart q = cc
 
   -- its stamp was not used before
@@ -140,7 +140,7 @@ module _ (t u : Table) (m : List ℕ) (k : Took t u m) where
 
 -- ---- the calls that keep a table
 
-named_own : (t : Table) (who : List ℕ) (i : ℕ) (c : Customer) → place_of t who ≡ At i
+named_own : (t : Table) (who : List ℕ) (i : ℕ) (c : Customer) → place_of t who ≡ Some i
     → (customer_in (with_named t who c) i ≡ c) × (length (with_named t who c).customers ≡ length t.customers)
 unfolding with_customer
 named_own t who i c p =
@@ -190,7 +190,7 @@ unfolding with_working with_keys holds_stamp
 working_same c key today = (refl, λ s. refl)
 
 -- another record in the place of the one named, with its name and its stamps
-renewed_onward : (t u : Table) (who : List ℕ) (i : ℕ) (c : Customer) → place_of t who ≡ At i
+renewed_onward : (t u : Table) (who : List ℕ) (i : ℕ) (c : Customer) → place_of t who ≡ Some i
     → ((j : ℕ) → (i ≡ j → ⊥) → customer_in u j ≡ customer_in t j) → customer_in u i ≡ c → length u.customers ≡ length t.customers
     → (c.who ≡ (named t who).who) × ((s : ℕ) → holds_stamp c s ≡ holds_stamp (named t who) s)
     → sound_table u ≡ true → u.holidays ≡ t.holidays → earlier u.day t.day ≡ false → Onward t u
@@ -200,7 +200,7 @@ renewed_onward t u who i c p x own n w e h d =
     (ap (λ (y : Customer). y.who) own ∙ w.0 ∙ ap (λ (y : Customer). y.who) is)
     (λ s g q. ap (λ (y : Customer). holds_stamp y s) own ∙ w.1 s ∙ ap (λ (y : Customer). holds_stamp y s) is ∙ g)
 
-module _ (t : Table) (e : Entering) (i : ℕ) (p : place_of t e.who ≡ At i) where
+module _ (t : Table) (e : Entering) (i : ℕ) (p : place_of t e.who ≡ Some i) where
   abbrev entered : Customer
   entered = with_transport (named t e.who) e.generation (combined e.part1 e.part2) e.today
 
@@ -216,7 +216,7 @@ module _ (t : Table) (e : Entering) (i : ℕ) (p : place_of t e.who ≡ At i) wh
       (transport_same (named t e.who) e.generation (combined e.part1 e.part2) e.today) s
       (entered_keeps t e).0.holidays d
 
-module _ (t : Table) (o : Ordering) (i : ℕ) (p : place_of t o.who ≡ At i) where
+module _ (t : Table) (o : Ordering) (i : ℕ) (p : place_of t o.who ≡ Some i) where
   abbrev key : ℕ
   key = key_of t.settings.maker.key t.settings.maker.seed o.clock
 

@@ -1,6 +1,7 @@
 -- What each call leaves: a refused one every byte, a served one a table; a read or an end changes nothing but with K, and then the sender's
 -- record and V alone.
 -- Assumes nothing.
+use Rattle.std.specs.Prelude.{Some}
 use Prim.Native.Nat.{ℕ}
 use mathlib.Core.Path.{◌≡◌, refl, ap, ◌∙◌}
 use mathlib.Core.List.{List, [], ◌∷◌}
@@ -13,7 +14,6 @@ use Rattle.ground.proofs.Bools.{neither}
 use Rattle.calendar.specs.Dates.{real_date, earlier}
 use Rattle.table.specs.Table.{Table, place_of, customer_in, with_day}
 use Rattle.table.specs.Decode.{table_of, is_table}
-use Rattle.table.specs.declared.Found.TheVariants.{At}
 use Rattle.table.proofs.Sound.{sound_day}
 use Rattle.table.proofs.Decode.{is_written, rewritten_is, written_is}
 use Rattle.refusals.specs.Refusals.{no_table, bad_day}
@@ -106,7 +106,7 @@ pub record Spared (t u : Table) (rs : List (List ℕ)) : Type 0 where
   pub kept : Kept t u
   pub count : length u.customers ≡ length t.customers
   pub places : (who : List ℕ) → place_of u who ≡ place_of t who
-  pub others : (j : ℕ) → ((r : List ℕ) → rs ≡ r ∷ [] → is_k r ≡ true → place_of t (receiver_of r) ≡ At j → ⊥) → customer_in u j ≡ customer_in t j
+  pub others : (j : ℕ) → ((r : List ℕ) → rs ≡ r ∷ [] → is_k r ≡ true → place_of t (receiver_of r) ≡ Some j → ⊥) → customer_in u j ≡ customer_in t j
 
 spared_same : (t u : Table) (rs : List (List ℕ)) → u ≡ t → Spared t u rs
 spared_same t u rs e =

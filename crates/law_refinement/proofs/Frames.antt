@@ -1,6 +1,7 @@
 -- The batch on its way is that of the frame's data records:
 -- its digest goes over the characters as they come, and at a VAR over the records before it.
 -- Assumes nothing.
+use Rattle.std.specs.Prelude.{None, Option, Some}
 use Prim.Native.Nat.{ℕ, ◌+◌, ◌≤◌, ◌<◌, ◌^◌}
 use mathlib.Core.Path.{◌≡◌, refl, sym, ap, ◌∙◌}
 use mathlib.Core.Bool.{Bool, true, false}
@@ -20,8 +21,6 @@ use Rattle.digest.specs.declared.State.{State}
 use Rattle.digest.specs.declared.Running.{Running}
 use Rattle.digest.proofs.Folds.{took_append}
 use Rattle.digest.proofs.Batches.{batch_is}
-use Rattle.changeover.specs.declared.Key.{Key}
-use Rattle.changeover.specs.declared.Key.TheVariants.{Missing, Is}
 use Rattle.table.specs.Table.{Table, place_of}
 use Rattle.message.specs.Fields.{sender_of, method_of}
 use Rattle.checks.specs.Checks.{key_or0}
@@ -71,10 +70,10 @@ batch_taken f chars b e =
     ∙ batch_eq f _ _ (sym (records_more (enciphered (key_or0 f.once)) (method_of f.suo.text) (alike begun) f.records chars))
 
 -- a SUO's end: no record yet
-pub batch_begun : (suo : Collected) (a b : Key) → a ≡ b
+pub batch_begun : (suo : Collected) (a b : Option ℕ) → a ≡ b
     → ◌≡◌ {A = Batch} (record { suo = suo; once = a; running = alike begun }) (batch_of (record { suo = suo; once = b; records = [] }) [])
 unfolding batch_of records_of took_bytes took_records
-batch_begun suo a b e = ap (λ (k : Key). record { suo = suo; once = k; running = alike begun }) e
+batch_begun suo a b e = ap (λ (k : Option ℕ). record { suo = suo; once = k; running = alike begun }) e
 
 pub batch_keeps : (f : Opened) (chars : List ℕ) (b : Batch) → b ≡ batch_of f chars → Kept f b
 unfolding batch_of
@@ -114,7 +113,7 @@ size_more (q ∷ rs) r = omega (arith, size_more rs r)
 
 -- ---- the frame as it is judged
 
-frame_eq : (f : Opened) (m : Collected) (suo : Collected) (once : Key) (start : State) → suo ≡ f.suo → once ≡ f.once → start
+frame_eq : (f : Opened) (m : Collected) (suo : Collected) (once : Option ℕ) (start : State) → suo ≡ f.suo → once ≡ f.once → start
     ≡ (records_of f).start
     → size_of f.records < 2 ^ 64
     → record { suo = suo; var = m; once = once; digest = answered (enciphered (key_or0 once)) start } ≡ frame_of f m
@@ -135,14 +134,14 @@ frame_is f m c s k e h = ap (frame_by s) e ∙ frame_eq f m _ _ _ k.suo k.once k
 
 -- ---- the one-time key
 
-once_lt : (k : Key) (suo : List ℕ) → key_or0 (one_time k suo) < 2 ^ 64
+once_lt : (k : Option ℕ) (suo : List ℕ) → key_or0 (one_time k suo) < 2 ^ 64
 unfolding one_time key_or0
-once_lt Missing suo = omega arith
-once_lt (Is transport) suo = deciphered-lt transport _
+once_lt None suo = omega arith
+once_lt (Some transport) suo = deciphered-lt transport _
 
 pub once_of-lt : (t : Table) (m : Collected) → key_or0 (once_of t m) < 2 ^ 64
 unfolding once_of one_time_of key_or0
 once_of-lt t m =
-    picked (λ (k : Key). key_or0 k < 2 ^ 64) _ _ _
+    picked (λ (k : Option ℕ). key_or0 k < 2 ^ 64) _ _ _
     (λ e. once_lt (transport_held t (place_of t (sender_of m.text)) m.text) m.text)
     (λ e. omega arith)

@@ -1,6 +1,7 @@
 -- A verdict leaves a table with as many holidays and customers,
 -- so writing it over the bytes of the one before is writing it over the first bytes.
 -- Assumes nothing.
+use Rattle.std.specs.Prelude.{None, Option, Some}
 use Prim.Native.Nat.{ℕ, ◌<◌, ◌^◌}
 use mathlib.Core.Path.{◌≡◌, refl, sym, ap, ap₂, ◌∙◌}
 use mathlib.Core.Bool.{true}
@@ -13,8 +14,6 @@ use Rattle.table.specs.Table.{Table, sound_table, with_customer, with_seed}
 use Rattle.table.specs.Named.{replaced_at, with_named}
 use Rattle.table.specs.Written.{total_length, encode, written}
 use Rattle.table.specs.Decode.{table_of, is_table}
-use Rattle.table.specs.declared.Found.{Found}
-use Rattle.table.specs.declared.Found.TheVariants.{At, Unknown}
 use Rattle.table.proofs.Encode.{encode-length, sound_fit}
 use Rattle.table.proofs.Decode.{is_written, rewritten_is}
 use Rattle.table_calls.proofs.Rewritten.{written_twice}
@@ -37,10 +36,10 @@ record Sized (t u : Table) : Type 0 where
 sized_same : (t : Table) → Sized t t
 sized_same t = record { holidays = refl; customers = refl }
 
-sized_at : (t : Table) (f : Found) (c : Customer) → Sized t (replaced_at t f c)
+sized_at : (t : Table) (f : Option ℕ) (c : Customer) → Sized t (replaced_at t f c)
 unfolding replaced_at with_customer
-sized_at t (At i) c = record { holidays = refl; customers = length-set t.customers i c }
-sized_at t Unknown c = sized_same t
+sized_at t (Some i) c = record { holidays = refl; customers = length-set t.customers i c }
+sized_at t None c = sized_same t
 
 sized_seed : (t u : Table) (v : ℕ) → Sized t u → Sized t (with_seed u v)
 unfolding with_seed

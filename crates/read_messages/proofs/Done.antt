@@ -1,5 +1,6 @@
 -- What is made of the calls' results at a message's end is the definition's: each result is put for its definition.
 -- Assumes nothing.
+use Rattle.std.specs.Prelude.{None, Option}
 use mathlib.Core.Path.{◌≡◌, refl, sym, ◌∙◌}
 use mathlib.Core.Bool.{Bool, true, false}
 use mathlib.Core.List.{List}
@@ -8,15 +9,11 @@ use Rattle.des.specs.Des.{schedule_of}
 use Rattle.des.specs.Joined.{joined, joined_by}
 use Rattle.des.proofs.Joined.{joined-cipher}
 use Rattle.digest.specs.Running.{begun, alike, ended, answered}
-use Rattle.digest.specs.declared.Answer.{Answer}
 use Rattle.digest.specs.declared.Method.{Method}
 use Rattle.digest.specs.declared.Running.{Running}
 use Rattle.digest.specs.declared.State.{State}
 use Rattle.ground.proofs.Choices.{picks, skips}
-use Rattle.changeover.specs.declared.Key.{Key}
-use Rattle.changeover.specs.declared.Key.TheVariants.{Missing}
 use Rattle.table.specs.Table.{Table, place_of}
-use Rattle.table.specs.declared.Found.{Found}
 use Rattle.table.specs.Decode.{table_of}
 use Rattle.message.specs.Fields.{sender_of, method_of}
 use Rattle.message.specs.Order.{first_failing}
@@ -65,24 +62,24 @@ module _ (s : Session) (w : List ℕ) (k : Collected) {m : Collected} {o : Occas
 
 -- ---- the one-time key, the frame that a SUO opens, and the frame at its VAR
 
-pub once_made : (t : Table) (suo : List ℕ) {who : List ℕ} {f : Found} {k once : Key} → who ≡ sender_of suo → f ≡ place_of t who
+pub once_made : (t : Table) (suo : List ℕ) {who : List ℕ} {f : Option ℕ} {k once : Option ℕ} → who ≡ sender_of suo → f ≡ place_of t who
     → k ≡ transport_held t f suo → once ≡ one_time k suo → once ≡ one_time_of t suo
 unfolding one_time_of
 once_made t suo ew ef ek eo = rw (eo, ek, ef, ew)
 
 -- a faulty SUO carries none
 pub once_faulty : (t : Table) (m : Collected) {b : Bool} → b ≡ is_sound (first_failing (form_checks (form_of Suo) Answered m)) → b ≡ false
-    → Missing ≡ once_of t m
+    → None ≡ once_of t m
 unfolding once_of
 once_faulty t m h f = sym (skips _ _ _ (sym h ∙ f))
 
-pub once_sound : (t : Table) (m : Collected) {b : Bool} {once : Key} → b ≡ is_sound (first_failing (form_checks (form_of Suo) Answered m))
+pub once_sound : (t : Table) (m : Collected) {b : Bool} {once : Option ℕ} → b ≡ is_sound (first_failing (form_checks (form_of Suo) Answered m))
     → b ≡ true → once ≡ one_time_of t m.text → once ≡ once_of t m
 unfolding once_of
 once_sound t m h f e = e ∙ sym (picks _ _ _ (sym h ∙ f))
 
 module _ (s : Session) {g : Gathered} {at z : Session} {run : Running} (eg : g ≡ nothing) (ea : at ≡ placed s InData s.told g) where
-  pub suo_made_lem : (w : List ℕ) (k : Collected) {m : Collected} {once : Key} {x : State} → m ≡ k → once ≡ once_of (table_of w) m → x ≡ begun
+  pub suo_made_lem : (w : List ℕ) (k : Collected) {m : Collected} {once : Option ℕ} {x : State} → m ≡ k → once ≡ once_of (table_of w) m → x ≡ begun
       → run ≡ alike x
       → z ≡ with_batch at (record { suo = m; once = once; running = run }) → z ≡ suo_done s w k
   unfolding suo_done
@@ -93,7 +90,7 @@ module _ (s : Session) {g : Gathered} {at z : Session} {run : Running} (eg : g �
   unfolding data_taken
   data_made em er ez = rw (ez, ea, eg, er, em)
 
-pub frame_made : (s : Session) (m : Collected) {t k : List ℕ} {key : ℕ} {d : Answer} → t ≡ joined → key ≡ key_or0 s.batch.once → k
+pub frame_made : (s : Session) (m : Collected) {t k : List ℕ} {key : ℕ} {d : Option ℕ} → t ≡ joined → key ≡ key_or0 s.batch.once → k
     ≡ schedule_of key
     → d ≡ answered (joined_by t k) s.batch.running.start
     → record { suo = s.batch.suo; var = m; once = s.batch.once; digest = d } ≡ frame_by s m

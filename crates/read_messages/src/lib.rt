@@ -268,34 +268,34 @@ pub fn esi_done(s: session::Session, t: &mut [u8], extent: message::Extent) -> s
 }
 
 // Field 15 deciphered under a transport key, if there is one.
-fn one_time(k: changeover::Key, suo: [u8; 161]) -> changeover::Key
+fn one_time(k: Option<u64>, suo: [u8; 161]) -> Option<u64>
     ensures { result ≡ one_time k suo }
 {
     match k {
-        changeover::Key::Missing => changeover::Key::Missing,
-        changeover::Key::Is(transport) => {
-            changeover::Key::Is(des::decipher(transport, message::once_field(suo)))
+        None => None,
+        Some(transport) => {
+            Some(des::decipher(transport, message::once_field(suo)))
         }
     }
 }
 
 // The transport key of the generation that a SUO names; a sender who is not there holds none.
-fn transport_held(t: &[u8], place: table::Found, suo: [u8; 161]) -> changeover::Key
+fn transport_held(t: &[u8], place: Option<usize>, suo: [u8; 161]) -> Option<u64>
     ensures { result ≡ transport_held (table_of t.now) place suo }
 {
     match place {
-        table::Found::At(i) => {
+        Some(i) => {
             let c = table::load(t, i);
             let keys = c.transport;
             let named = message::transport_generation(suo);
             changeover::held(keys, named)
         }
-        table::Found::Unknown => changeover::Key::Missing,
+        None => None,
     }
 }
 
 // The one-time key, by the transport key that the SUO's sender holds now.
-fn one_time_of(t: &[u8], suo: [u8; 161]) -> changeover::Key
+fn one_time_of(t: &[u8], suo: [u8; 161]) -> Option<u64>
     ensures { result ≡ one_time_of (table_of t.now) suo }
 {
     let place = table::find(t, message::sender(suo));
@@ -319,11 +319,11 @@ fn is_sound_suo(suo: message::Collected) -> bool
 }
 
 // The one-time key that a SUO carries: a faulty one carries none.
-fn once_of(t: &[u8], suo: message::Collected) -> changeover::Key
+fn once_of(t: &[u8], suo: message::Collected) -> Option<u64>
     ensures { result ≡ once_of (table_of t.now) suo }
 {
     if !is_sound_suo(suo) {
-        return changeover::Key::Missing;
+        return None;
     }
     let text = suo.text;
     one_time_of(t, text)

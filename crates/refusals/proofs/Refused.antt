@@ -1,5 +1,6 @@
 -- Of a list of refusals the first that holds is given, and past those that do not the rest decides.
 -- Assumes nothing.
+use Rattle.std.specs.Prelude.{None, Some}
 use mathlib.Core.Path.{◌≡◌, refl, sym, ap, ◌∙◌}
 use mathlib.Core.List.{List, [], ◌∷◌}
 use mathlib.Core.Bool.{Bool, true, false}
@@ -15,7 +16,6 @@ use Rattle.ground.proofs.Bools.{neither}
 use Rattle.calendar.specs.Dates.{dated, real_date, is_before}
 use Rattle.calendar.specs.declared.Date.{Date}
 use Rattle.table.specs.Table.{Table, place_of, is_unknown}
-use Rattle.table.specs.declared.Found.TheVariants.{At, Unknown}
 use Rattle.table.specs.Decode.{table_of, is_table}
 use Rattle.refusals.specs.Refusals.{Refusal, refusal, lowest, no_table, bad_day, no_such_customer}
 
@@ -56,11 +56,11 @@ too_long n h = by (ltb 60 n) refl
 
 -- ---- whether a customer is there
 
-pub not_there : (t : Table) (who : List ℕ) → place_of t who ≡ Unknown → no_such_customer t who ≡ true
+pub not_there : (t : Table) (who : List ℕ) → place_of t who ≡ None → no_such_customer t who ≡ true
 unfolding no_such_customer is_unknown
 not_there t who p = ap is_unknown p
 
-pub is_there : (t : Table) (who : List ℕ) (i : ℕ) → place_of t who ≡ At i → no_such_customer t who ≡ false
+pub is_there : (t : Table) (who : List ℕ) (i : ℕ) → place_of t who ≡ Some i → no_such_customer t who ≡ false
 unfolding no_such_customer is_unknown
 is_there t who i p = ap is_unknown p
 

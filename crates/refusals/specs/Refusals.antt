@@ -1,6 +1,6 @@
 -- When a call can't be served: each condition in document 01's words ('Call refusals'), apart from the walk that picks the lowest.
 -- Assumes nothing.
-use Rattle.std.specs.Prelude.{ℕ, Bool, false, List, eqb, leb, length}
+use Rattle.std.specs.Prelude.{ℕ, Bool, false, List, eqb, leb, length, None, Option, Some}
 use Rattle.ground.specs.Choice.{either, fails, between}
 use Rattle.ground.specs.First.{first_that}
 use Rattle.calendar.specs.Dates.{dated, is_real, is_before}
@@ -9,8 +9,7 @@ use Rattle.keys.specs.Parity.{odd_parity}
 use Rattle.keys.specs.Keys.{combined, check_value, next_generation}
 use Rattle.table.specs.Table.{Table, place_of, is_unknown}
 use Rattle.table.specs.Decode.{is_table}
-use Rattle.refusals.specs.declared.Length.{Length}
-use Rattle.refusals.specs.declared.Length.TheVariants.{Given, LeftOut}
+use Rattle.calendar.specs.declared.CalendarDays.{CalendarDays}
 
 -- a refusal's number, and whether its condition holds
 pub record Refusal : Type 0 where
@@ -58,6 +57,6 @@ unfoldable pub not_next : (current new : ℕ) → Bool
 not_next current new = fails (eqb (next_generation current) new)
 
 -- a changeover length of 1 to 60; where none is given there is nothing to be out of its limits
-unfoldable pub bad_length : Length → Bool
-bad_length (Given n) = fails (between 1 60 n.0)
-bad_length LeftOut = false
+unfoldable pub bad_length : Option CalendarDays → Bool
+bad_length (Some n) = fails (between 1 60 n.0)
+bad_length None = false

@@ -11,13 +11,6 @@ ghost use Rattle.table.specs.Decode.{table_of};
 ghost use Rattle.refusals.specs.Refusals.{bad_day, table_full, already_there, even_part, check_differs, not_next, bad_length};
 ghost use Rattle.refusals.specs.Length.{length_of};
 
-// A changeover length: given, or left out.
-#[derive(Clone, Copy)]
-pub enum Length {
-    Given(calendar::CalendarDays),
-    LeftOut,
-}
-
 // Whether today is no real date, or before the table's day.
 pub fn is_bad_day(t: &[u8], today: calendar::Date) -> bool
     ensures { result ≡ bad_day (table_of t.now) today }
@@ -42,8 +35,8 @@ pub fn is_there(t: &[u8], who: [u8; 25]) -> bool
 {
     let found = table::find(t, who);
     match found {
-        table::Found::At(_) => true,
-        table::Found::Unknown => false,
+        Some(_) => true,
+        None => false,
     }
 }
 
@@ -73,27 +66,27 @@ pub fn is_not_next(current: u32, new: u32) -> bool
 }
 
 // The days of a changeover.
-pub fn days_of(l: Length) -> calendar::CalendarDays
+pub fn days_of(l: Option<calendar::CalendarDays>) -> calendar::CalendarDays
     ensures { result ≡ length_of l }
 {
     match l {
-        Length::Given(n) => n,
-        Length::LeftOut => calendar::CalendarDays(30),
+        Some(n) => n,
+        None => calendar::CalendarDays(30),
     }
 }
 
 // Whether a length is given and out of its limits.
-pub fn is_bad_length(l: Length) -> bool
+pub fn is_bad_length(l: Option<calendar::CalendarDays>) -> bool
     ensures { result ≡ bad_length l }
 {
     match l {
-        Length::Given(n) => {
+        Some(n) => {
             if n.0 < 1 {
                 return true;
             }
             60 < n.0
         }
-        Length::LeftOut => false,
+        None => false,
     }
 }
 

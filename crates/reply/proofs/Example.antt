@@ -1,5 +1,6 @@
 -- The whole reply that document 01 prints, to the file HELLO: antt computes it.
 -- Assumes nothing.
+use Rattle.std.specs.Prelude.{None}
 use mathlib.Core.Path.{◌≡◌, refl}
 use mathlib.Core.Bool.{true, false}
 use mathlib.Core.List.{◌++◌}
@@ -9,7 +10,6 @@ use Rattle.ground.specs.Lists.{part, overlay}
 use Rattle.text.specs.Characters.{blank, padded}
 use Rattle.text.specs.Numbers.{decimal_digits}
 use Rattle.text.specs.Letters.{letters}
-use Rattle.changeover.specs.declared.Key.TheVariants.{Missing}
 use Rattle.message.specs.Layout.{field, offset_in, width_in, name_in, field_text}
 use Rattle.message.specs.Contents.{contents_as, held_in}
 use Rattle.notice.specs.Codes.{code_in, field_name, shown_byte, value_text, text_of}
@@ -30,9 +30,9 @@ hello =
       software = padded 16 (letters "FRONT 4");
       message = replicate 161 blank;
       closing = replicate 161 blank;
-      working = Missing;
-      transport = Missing;
-      enclosed = Missing;
+      working = None;
+      transport = None;
+      enclosed = None;
     }
 
 pub hello_reply : reply_of hello ≡

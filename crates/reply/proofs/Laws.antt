@@ -1,5 +1,6 @@
 -- What every reply keeps: its length, its checksum, and what stands in its fields.
 -- Assumes nothing.
+use Rattle.std.specs.Prelude.{None, Option, Some}
 use mathlib.Core.Path.{◌≡◌, refl, sym, ap, ◌∙◌}
 use mathlib.Core.Bool.{Bool, true, false}
 use mathlib.Core.List.{List, [], ◌∷◌, ◌++◌, append_assoc}
@@ -19,8 +20,6 @@ use Rattle.text.specs.Characters.{blank}
 use Rattle.text.specs.Letters.{letters}
 use Rattle.text.specs.Numbers.{decimal_digits, hex_digits}
 use Rattle.digest.specs.Mac.{checksum_of}
-use Rattle.changeover.specs.declared.Key.{Key}
-use Rattle.changeover.specs.declared.Key.TheVariants.{Missing, Is}
 use Rattle.message.specs.Layout.{field_text, offset_in, width_in}
 use Rattle.message.specs.Fields.{receiver_of, sender_of, stamp_text_of}
 use Rattle.notice.specs.Codes.{code_in, codes}
@@ -202,11 +201,11 @@ module _ (a : Answering) (full : a.bare ≡ false) where
         (ap length (stamp_part m) ∙ part_length m 87 15 (omega arith))
 
   module _ (bank : length a.bank ≡ 25) (software : length a.software ≡ 16) (message : length a.message ≡ 161)
-      (closing : length a.closing ≡ 161) (k : ℕ) (key : a.working ≡ Is k) where
-    summed_is : checksum_key a (head a) ≡ Is (checksum_of k (head a))
+      (closing : length a.closing ≡ 161) (k : ℕ) (key : a.working ≡ Some k) where
+    summed_is : checksum_key a (head a) ≡ Some (checksum_of k (head a))
     unfolding checksum_key summed
     summed_is =
-        skips a.bare Missing (summed a.working (head a)) full ∙ ap (λ (w : Key). summed w (head a)) key
+        skips a.bare None (summed a.working (head a)) full ∙ ap (λ (w : Option ℕ). summed w (head a)) key
 
     -- field 17 is the checksum, under the working key, of the characters before it
     pub reply_sum : part 144 16 (reply_of a) ≡ hex_digits 16 (checksum_of k (take 144 (reply_of a)))

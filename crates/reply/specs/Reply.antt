@@ -1,6 +1,6 @@
 -- The bank's replies, ESI and PTE, full and bare: a reply is the list of its fields (document 01, 'Replies').
 -- Assumes nothing.
-use Rattle.std.specs.Prelude.{ℕ, ◌/◌, ◌%◌, List, [], ◌∷◌, ◌++◌, leb, length, take, drop, replicate}
+use Rattle.std.specs.Prelude.{ℕ, ◌/◌, ◌%◌, List, [], ◌∷◌, ◌++◌, leb, length, take, drop, replicate, None, Option, Some}
 use Rattle.ground.specs.Choice.{pick}
 use Rattle.ground.specs.Lists.{overlay}
 use Rattle.text.specs.Characters.{blank, padded}
@@ -8,8 +8,6 @@ use Rattle.text.specs.Numbers.{decimal_digits, hex_digits}
 use Rattle.text.specs.Letters.{letters}
 use Rattle.des.specs.Des.{enciphered}
 use Rattle.digest.specs.Mac.{checksum_of}
-use Rattle.changeover.specs.declared.Key.{Key}
-use Rattle.changeover.specs.declared.Key.TheVariants.{Missing, Is}
 use Rattle.message.specs.Layout.{field, subfield, field_text}
 use Rattle.message.specs.Contents.{held_in}
 use Rattle.notice.specs.Codes.{code_in, codes, text_of}
@@ -27,32 +25,32 @@ unfoldable pub notice_of : Answering → List ℕ
 notice_of a = padded 60 (clock_text a.time ++ letters " " ++ text_of a.code a.field (held_in a.contents))
 
 -- sixteen hex digits of a key's number, or blanks
-unfoldable pub hex_or : Key → List ℕ
-hex_or Missing = replicate 16 blank
-hex_or (Is x) = hex_digits 16 x
+unfoldable pub hex_or : Option ℕ → List ℕ
+hex_or None = replicate 16 blank
+hex_or (Some x) = hex_digits 16 x
 
 -- the checksum of a reply's first 144 characters, under the message's working key if held; in the bare form blanks
-unfoldable pub summed : Key → List ℕ → Key
-summed Missing h = Missing
-summed (Is key) h = Is (checksum_of key h)
+unfoldable pub summed : Option ℕ → List ℕ → Option ℕ
+summed None h = None
+summed (Some key) h = Some (checksum_of key h)
 
-unfoldable pub checksum_key : Answering → List ℕ → Key
-checksum_key a h = pick a.bare Missing (summed a.working h)
+unfoldable pub checksum_key : Answering → List ℕ → Option ℕ
+checksum_key a h = pick a.bare None (summed a.working h)
 
 -- the key to enclose, enciphered under the transport key of the message's generation; none where there is no such key
-unfoldable pub sealed : (transport enclosed : Key) → Key
-sealed Missing enclosed = Missing
-sealed (Is transport) Missing = Missing
-sealed (Is transport) (Is key) = Is (enciphered transport key)
+unfoldable pub sealed : (transport enclosed : Option ℕ) → Option ℕ
+sealed None enclosed = None
+sealed (Some transport) None = None
+sealed (Some transport) (Some key) = Some (enciphered transport key)
 
 -- a bare reply encloses none
-unfoldable pub enclosed_key : Answering → Key
-enclosed_key a = pick a.bare Missing (sealed a.transport a.enclosed)
+unfoldable pub enclosed_key : Answering → Option ℕ
+enclosed_key a = pick a.bare None (sealed a.transport a.enclosed)
 
 -- field 18 is 1 where a key is enclosed, else 0
-unfoldable pub sealed_flag : Key → List ℕ
-sealed_flag Missing = letters "0"
-sealed_flag (Is x) = letters "1"
+unfoldable pub sealed_flag : Option ℕ → List ℕ
+sealed_flag None = letters "0"
+sealed_flag (Some x) = letters "1"
 
 -- ---- the fields in their order
 

@@ -2,13 +2,12 @@
 
 #![tactic(auto)]
 
-ghost use Rattle.std.specs.Prelude.{◌≡◌, [], ◌++◌, ◌+◌, ◌%◌, ◌≤◌, length, take, replicate};
+ghost use Rattle.std.specs.Prelude.{◌≡◌, [], ◌++◌, ◌+◌, ◌%◌, ◌≤◌, length, take, replicate, Some};
 ghost use Rattle.ground.specs.Choice.{pick};
 ghost use Rattle.ground.specs.Lists.{part};
 ghost use Rattle.text.specs.Characters.{blank};
 ghost use Rattle.text.specs.Numbers.{decimal_digits};
 ghost use Rattle.text.specs.Letters.{letters};
-ghost use Rattle.changeover.specs.declared.Key.TheVariants.{Is};
 ghost use Rattle.reply.specs.Reply.{clock_text, notice_of, hex_or, sealed, sealed_flag, joined, opening_fields, full_fields, bare_fields};
 ghost use Rattle.reply.specs.Reply.{body_fields, head, checksum_key, enclosed_key, reply_of, reply_length, replied, written_length};
 ghost use Rattle.reply.specs.Putting.{Put, marks};
@@ -28,9 +27,9 @@ pub struct Answering {
     pub software: [u8; 16],
     pub message: [u8; 161],
     pub closing: [u8; 161],
-    pub working: changeover::Key,
-    pub transport: changeover::Key,
-    pub enclosed: changeover::Key,
+    pub working: Option<u64>,
+    pub transport: Option<u64>,
+    pub enclosed: Option<u64>,
 }
 
 // `src` written at a place, and the place after it. Each function below writes its part so, and gives the next place.
@@ -171,50 +170,50 @@ fn put_body(out: &mut [u8], at: usize, a: Answering) -> usize
 }
 
 // The checksum of the characters before it.
-fn checksum_key(a: Answering, written: &[u8]) -> changeover::Key
+fn checksum_key(a: Answering, written: &[u8]) -> Option<u64>
     ensures { result ≡ checksum_key a (take 144 written.now) }
 {
     if a.bare {
-        return changeover::Key::Missing;
+        return None;
     }
     let working = a.working;
     match working {
-        changeover::Key::Missing => changeover::Key::Missing,
-        changeover::Key::Is(key) => changeover::Key::Is(digest::checksum(key, written)),
+        None => None,
+        Some(key) => Some(digest::checksum(key, written)),
     }
 }
 
-fn seal(transport: u64, enclosed: changeover::Key) -> changeover::Key
-    ensures { result ≡ sealed (Is transport) enclosed }
+fn seal(transport: u64, enclosed: Option<u64>) -> Option<u64>
+    ensures { result ≡ sealed (Some transport) enclosed }
 {
     match enclosed {
-        changeover::Key::Missing => changeover::Key::Missing,
-        changeover::Key::Is(key) => changeover::Key::Is(des::encipher(transport, key)),
+        None => None,
+        Some(key) => Some(des::encipher(transport, key)),
     }
 }
 
-fn enclosed_key(a: Answering) -> changeover::Key
+fn enclosed_key(a: Answering) -> Option<u64>
     ensures { result ≡ enclosed_key a }
 {
     if a.bare {
-        return changeover::Key::Missing;
+        return None;
     }
     let transport = a.transport;
     let enclosed = a.enclosed;
     match transport {
-        changeover::Key::Missing => changeover::Key::Missing,
-        changeover::Key::Is(key) => seal(key, enclosed),
+        None => None,
+        Some(key) => seal(key, enclosed),
     }
 }
 
 // Sixteen hex digits of a key's number, or blanks.
-fn put_hex(out: &mut [u8], at: usize, key: changeover::Key) -> usize
+fn put_hex(out: &mut [u8], at: usize, key: Option<u64>) -> usize
     requires { at + 16 ≤ length out.old }
     ensures { Put at (hex_or key) out.old out.new result }
 {
     match key {
-        changeover::Key::Missing => put_blanks(out, at, 16),
-        changeover::Key::Is(x) => {
+        None => put_blanks(out, at, 16),
+        Some(x) => {
             let digits = text::hex_digits(x);
             put(out, at, &digits)
         }
@@ -222,13 +221,13 @@ fn put_hex(out: &mut [u8], at: usize, key: changeover::Key) -> usize
 }
 
 // Whether a key is enclosed.
-fn put_flag(out: &mut [u8], at: usize, key: changeover::Key) -> usize
+fn put_flag(out: &mut [u8], at: usize, key: Option<u64>) -> usize
     requires { at + 1 ≤ length out.old }
     ensures { Put at (sealed_flag key) out.old out.new result }
 {
     match key {
-        changeover::Key::Missing => put(out, at, b"0"),
-        changeover::Key::Is(_) => put(out, at, b"1"),
+        None => put(out, at, b"0"),
+        Some(_) => put(out, at, b"1"),
     }
 }
 

@@ -1,6 +1,7 @@
 -- A session that was just opened fits its type, and encodes where its opening's numbers do;
 -- so does one that is not open: all else in them is zero.
 -- Assumes nothing.
+use Rattle.std.specs.Prelude.{None}
 use Prim.Native.Nat.{ℕ, ◌<◌, ◌^◌}
 use mathlib.Core.Path.{◌≡◌, refl, ap, ◌∙◌, subst, sym}
 use mathlib.Core.Bool.{false}
@@ -9,7 +10,6 @@ use lib.ListN.{length, replicate, length-replicate}
 use Rattle.digest.specs.Running.{begun, alike}
 use Rattle.digest.specs.Ranges.{RunningFits}
 use Rattle.digest.proofs.Ranges.{begun_fits, alike_fits}
-use Rattle.changeover.specs.declared.Key.TheVariants.{Missing}
 use Rattle.message.specs.declared.Extent.TheVariants.{Whole}
 use Rattle.checks.specs.Checks.{key_or0}
 use Rattle.opening.specs.declared.Opening.{Opening}
@@ -24,7 +24,7 @@ use Rattle.session.specs.declared.Session.{Session}
 -- ---- a session with nothing in it but its opening
 
 abbrev empty_batch : Batch
-empty_batch = record { suo = record { extent = Whole; blank = false; text = replicate text_room 0 }; once = Missing; running = alike begun }
+empty_batch = record { suo = record { extent = Whole; blank = false; text = replicate text_room 0 }; once = None; running = alike begun }
 
 record Empty (s : Session) : Type 0 where
   no_keys : s.made ≡ 0

@@ -1,11 +1,10 @@
 -- Events to replies: what characters, a record's end, a byte past the size limit and the file's end do to a session and a table.
 -- Assumes nothing.
-use Rattle.std.specs.Prelude.{ℕ, ◌+◌, min, Bool, true, false, List, [], ◌∷◌, eqb, ltb, take, drop, set, replicate}
+use Rattle.std.specs.Prelude.{ℕ, ◌+◌, min, Bool, true, false, List, [], ◌∷◌, eqb, ltb, take, drop, set, replicate, None}
 use Rattle.ground.specs.Choice.{both, either, pick}
 use Rattle.text.specs.Characters.{blank, all_blank}
 use Rattle.des.specs.Des.{enciphered}
 use Rattle.digest.specs.Running.{begun, alike, took_bytes, ended, answered}
-use Rattle.changeover.specs.declared.Key.TheVariants.{Missing}
 use Rattle.table.specs.Decode.{table_of}
 use Rattle.message.specs.Layout.{field, no_field}
 use Rattle.message.specs.Contents.{contents_as}
@@ -119,9 +118,9 @@ no_reply =
             software = replicate 16 0;
             message = replicate 161 0;
             closing = replicate 161 0;
-            working = Missing;
-            transport = Missing;
-            enclosed = Missing;
+            working = None;
+            transport = None;
+            enclosed = None;
           };
     }
 

@@ -1,9 +1,8 @@
 -- The machine: what one byte, some bytes up to the first reply, and the file's end do to a session and a table.
 -- Assumes nothing.
-use Rattle.std.specs.Prelude.{ℕ, ◌+◌, Bool, true, false, List, [], ◌∷◌, ltb, replicate}
+use Rattle.std.specs.Prelude.{ℕ, ◌+◌, Bool, true, false, List, [], ◌∷◌, ltb, replicate, None}
 use Rattle.ground.specs.Choice.{either, pick}
 use Rattle.digest.specs.Running.{begun, alike}
-use Rattle.changeover.specs.declared.Key.TheVariants.{Missing}
 use Rattle.message.specs.declared.Extent.TheVariants.{Whole}
 use Rattle.opening.specs.declared.Opening.{Opening}
 use Rattle.whole_file.specs.Messages.{text_room}
@@ -69,7 +68,7 @@ opened o =
       batch =
           record {
             suo = record { extent = Whole; blank = false; text = replicate text_room 0 };
-            once = Missing;
+            once = None;
             running = alike begun;
           };
     }
@@ -90,7 +89,7 @@ unopened =
       batch =
           record {
             suo = record { extent = Whole; blank = false; text = replicate text_room 0 };
-            once = Missing;
+            once = None;
             running = alike begun;
           };
     }

@@ -39,7 +39,7 @@ pub struct Gathered {
 #[derive(Clone, Copy)]
 pub struct Batch {
     pub suo: message::Collected,
-    pub once: changeover::Key,
+    pub once: Option<u64>,
     pub running: digest::Running,
 }
 
@@ -200,9 +200,9 @@ pub fn no_reply() -> Reply
             software: [0; 16],
             message: [0; 161],
             closing: [0; 161],
-            working: changeover::Key::Missing,
-            transport: changeover::Key::Missing,
-            enclosed: changeover::Key::Missing,
+            working: None,
+            transport: None,
+            enclosed: None,
         },
     }
 }
@@ -328,7 +328,7 @@ fn no_batch() -> Batch
             blank: false,
             text: [0; 161],
         },
-        once: changeover::Key::Missing,
+        once: None,
         running: digest::at_record(digest::start()),
     }
 }

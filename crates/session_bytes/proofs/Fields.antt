@@ -1,5 +1,6 @@
 -- A session is its fields, and fields that fit their bytes are those of a session that does.
 -- Assumes nothing.
+use Rattle.std.specs.Prelude.{None, Option, Some}
 use mathlib.Core.Path.{◌≡◌, refl}
 use mathlib.Core.Bool.{true}
 use mathlib.Core.Option.{none, some}
@@ -10,8 +11,6 @@ use Rattle.splices.specs.Bytes.{bytes_of}
 use Rattle.codec.specs.Layout.{perhaps, Value, scalar, enc, Fits}
 use Rattle.digest.specs.Ranges.{StateFits}
 use Rattle.digest.specs.declared.State.{State}
-use Rattle.changeover.specs.declared.Key.{Key}
-use Rattle.changeover.specs.declared.Key.TheVariants.{Missing, Is}
 use Rattle.message.specs.declared.Extent.{Extent}
 use Rattle.message.specs.declared.Extent.TheVariants.{Whole, TooShort, LengthNotDigits, OtherLength, CutShort}
 use Rattle.checks.specs.Checks.{key_or0}
@@ -58,9 +57,9 @@ extent_rest (suc (suc (suc (suc x)))) h = refl
 
 -- ---- a session is its fields
 
-key_there : (k : Key) → key_from (key_to k) ≡ k
-key_there Missing = refl
-key_there (Is key) = refl
+key_there : (k : Option ℕ) → key_from (key_to k) ≡ k
+key_there None = refl
+key_there (Some key) = refl
 
 key_back : (v : Value (perhaps once_shape)) → key_to (key_from v) ≡ v
 key_back none = refl
@@ -89,10 +88,10 @@ fields_back (front, (gathered, (suo, (once, running)))) =
 
 -- ---- that fit
 
-key_fits : (k : Key) → key_or0 k < 2 ^ 64 → Fits (perhaps once_shape) (key_to k)
+key_fits : (k : Option ℕ) → key_or0 k < 2 ^ 64 → Fits (perhaps once_shape) (key_to k)
 unfolding key_or0
-key_fits Missing h = tt
-key_fits (Is key) h = omega (arith, h)
+key_fits None h = tt
+key_fits (Some key) h = omega (arith, h)
 
 fits_key : (v : Value (perhaps once_shape)) → Fits (perhaps once_shape) v → key_or0 (key_from v) < 2 ^ 64
 unfolding key_or0

@@ -1,15 +1,13 @@
 -- A session as bytes that a host keeps (docs/FORMAT.md): its fields in their order, each a line, and how they are a session's. Every number
 -- is written lowest byte first.
 -- Assumes nothing.
-use Rattle.std.specs.Prelude.{ℕ, Bool, List, eqb, length}
+use Rattle.std.specs.Prelude.{ℕ, Bool, List, eqb, length, None, Option, Some}
 use Rattle.std.proofs.Math.Option.{none, some}
 use Rattle.ground.specs.Choice.{both, pick}
 use Rattle.ground.specs.Lists.{same}
 use Rattle.codec.specs.Layout.{Shape, number, named, text, perhaps, within, ◌⊗◌, Value, enc, dec}
 use Rattle.codec.specs.Flag.{flag}
 use Rattle.digest.specs.declared.State.{State}
-use Rattle.changeover.specs.declared.Key.{Key}
-use Rattle.changeover.specs.declared.Key.TheVariants.{Missing, Is}
 use Rattle.message.specs.declared.Extent.{Extent}
 use Rattle.message.specs.declared.Collected.{Collected}
 use Rattle.session.specs.Machine.{unopened}
@@ -95,9 +93,9 @@ gathered_from (count, (blank, characters)) = record { count = count; blank = bla
 abbrev pub suo_from : Value suo_shape → Collected
 suo_from (extent, (blank, characters)) = record { extent = extent; blank = blank; text = characters }
 
-abbrev pub key_from : Value (perhaps once_shape) → Key
-key_from none = Missing
-key_from (some key) = Is key
+abbrev pub key_from : Value (perhaps once_shape) → Option ℕ
+key_from none = None
+key_from (some key) = Some key
 
 abbrev pub state_from : Value state_shape → State
 state_from (chain, (block, n)) = record { chain = chain; block = block; n = n }
@@ -141,9 +139,9 @@ gathered_to g = (g.count, (g.blank, g.text))
 abbrev pub suo_to : Collected → Value suo_shape
 suo_to c = (c.extent, (c.blank, c.text))
 
-abbrev pub key_to : Key → Value (perhaps once_shape)
-key_to Missing = none
-key_to (Is key) = some key
+abbrev pub key_to : Option ℕ → Value (perhaps once_shape)
+key_to None = none
+key_to (Some key) = some key
 
 abbrev pub state_to : State → Value state_shape
 state_to s = (s.chain, (s.block, s.n))

@@ -99,14 +99,14 @@ fn suo_in(b: &[u8]) -> message::Collected
     }
 }
 
-fn key_in(b: &[u8]) -> changeover::Key
+fn key_in(b: &[u8]) -> Option<u64>
     requires { length b.now ≡ session_size }
     ensures { result ≡ (session_of b.now).batch.once }
 {
     if codec::read1(b, 391) != 1 {
-        return changeover::Key::Missing;
+        return None;
     }
-    changeover::Key::Is(codec::read8(b, 392))
+    Some(codec::read8(b, 392))
 }
 
 fn state_at(b: &[u8], at: usize) -> digest::State
@@ -317,7 +317,7 @@ fn running_row(a: session::Batch) -> [u64; 11]
     let start = a.running.start;
     let solid = a.running.solid;
     let last = a.running.last;
-    let changeover::Key::Is(key) = once else {
+    let Some(key) = once else {
         return [
             0,
             0,

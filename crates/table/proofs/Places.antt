@@ -1,5 +1,6 @@
 -- Who is in a table: a place that is found is the first of its name, and a record with the same name in its stead moves no place.
 -- Assumes nothing.
+use Rattle.std.specs.Prelude.{None, Option, Some}
 use mathlib.Core.Path.{◌≡◌, refl, sym, ap, ◌∙◌}
 use mathlib.Core.List.{List, [], ◌∷◌, ◌++◌}
 use mathlib.Core.Bool.{Bool, true, false}
@@ -17,36 +18,34 @@ use Rattle.customer.specs.declared.Customer.{Customer}
 use Rattle.table.specs.Table.{Table, place_from, is_unknown, distinct, customer_fits, each_sound, place_of, nobody, customer_in}
 use Rattle.table.specs.Table.{with_customer, with_day, with_seed}
 use Rattle.table.specs.Named.{customer_at, replaced_at, named, with_named}
-use Rattle.table.specs.declared.Found.{Found}
-use Rattle.table.specs.declared.Found.TheVariants.{At, Unknown}
 
 -- ---- the place that is found
 
 -- it is one of the list's
-place_below : (l : List Customer) (k : ℕ) (x : List ℕ) (i : ℕ) → place_from k x l ≡ At i → (k ≤ i) × (i < k + length l)
+place_below : (l : List Customer) (k : ℕ) (x : List ℕ) (i : ℕ) → place_from k x l ≡ Some i → (k ≤ i) × (i < k + length l)
 unfolding place_from pick
 place_below [] k x i e = let z : ◌≡◌ {A = ℕ} 0 1 = cc in absurd (omega arith)
 place_below (c ∷ l) k x i e = go (same c.who x) e (place_below l (k + 1) x i)
   where
-    go : (t : Bool) → pick t (At k) (place_from (k + 1) x l) ≡ At i
-        → (place_from (k + 1) x l ≡ At i → (k + 1 ≤ i) × (i < k + 1 + length l)) → (k ≤ i) × (i < k + suc (length l))
+    go : (t : Bool) → pick t (Some k) (place_from (k + 1) x l) ≡ Some i
+        → (place_from (k + 1) x l ≡ Some i → (k + 1 ≤ i) × (i < k + 1 + length l)) → (k ≤ i) × (i < k + suc (length l))
     go true f r = let q : k ≡ i = cc in (omega arith, omega arith)
     go false f r = let p = r f in (omega arith, omega arith)
 
 -- and its customer has the name
-place_has : (l : List Customer) (k : ℕ) (x : List ℕ) (m i : ℕ) (d : Customer) → place_from k x l ≡ At m → m ≡ k + i
+place_has : (l : List Customer) (k : ℕ) (x : List ℕ) (m i : ℕ) (d : Customer) → place_from k x l ≡ Some m → m ≡ k + i
     → same (get_or l i d).who x ≡ true
 unfolding place_from pick
 place_has [] k x m i d e q = let z : ◌≡◌ {A = ℕ} 0 1 = cc in absurd (omega arith)
 place_has (c ∷ l) k x m zero d e q = go (same c.who x) refl e
   where
-    go : (v : Bool) → same c.who x ≡ v → pick v (At k) (place_from (k + 1) x l) ≡ At m → same c.who x ≡ true
+    go : (v : Bool) → same c.who x ≡ v → pick v (Some k) (place_from (k + 1) x l) ≡ Some m → same c.who x ≡ true
     go true f g = f
     go false f g = let p = place_below l (k + 1) x m g in absurd (omega arith)
 place_has (c ∷ l) k x m (suc i) d e q = go (same c.who x) e (place_has l (k + 1) x m i d)
   where
-    go : (v : Bool) → pick v (At k) (place_from (k + 1) x l) ≡ At m
-        → (place_from (k + 1) x l ≡ At m → m ≡ k + 1 + i → same (get_or l i d).who x ≡ true) → same (get_or l i d).who x ≡ true
+    go : (v : Bool) → pick v (Some k) (place_from (k + 1) x l) ≡ Some m
+        → (place_from (k + 1) x l ≡ Some m → m ≡ k + 1 + i → same (get_or l i d).who x ≡ true) → same (get_or l i d).who x ≡ true
     go true g r = let p : k ≡ m = cc in absurd (omega arith)
     go false g r = r g (omega arith)
 
@@ -57,21 +56,21 @@ unknown_any [] j k x = refl
 unknown_any (c ∷ l) j k x = go (same c.who x) (unknown_any l (j + 1) (k + 1) x)
   where
     go : (t : Bool) → is_unknown (place_from (j + 1) x l) ≡ is_unknown (place_from (k + 1) x l)
-        → is_unknown (pick t (At j) (place_from (j + 1) x l)) ≡ is_unknown (pick t (At k) (place_from (k + 1) x l))
+        → is_unknown (pick t (Some j) (place_from (j + 1) x l)) ≡ is_unknown (pick t (Some k) (place_from (k + 1) x l))
     go true r = refl
     go false r = r
 
-pub is_unknown_lem : (f : Found) → is_unknown f ≡ true → f ≡ Unknown
+pub is_unknown_lem : (f : Option ℕ) → is_unknown f ≡ true → f ≡ None
 unfolding is_unknown
-is_unknown_lem (At i) e = let z : ◌≡◌ {A = Bool} false true = e in cc
-is_unknown_lem Unknown e = refl
+is_unknown_lem (Some i) e = let z : ◌≡◌ {A = Bool} false true = e in cc
+is_unknown_lem None e = refl
 
-pub known_at : (f : Found) → is_unknown f ≡ false → (i : ℕ) × (f ≡ At i)
+pub known_at : (f : Option ℕ) → is_unknown f ≡ false → (i : ℕ) × (f ≡ Some i)
 unfolding is_unknown
-known_at (At i) e = (i, refl)
-known_at Unknown e = let z : ◌≡◌ {A = Bool} true false = e in (0, cc)
+known_at (Some i) e = (i, refl)
+known_at None e = let z : ◌≡◌ {A = Bool} true false = e in (0, cc)
 
-unknown_is : (f : Found) → f ≡ Unknown → is_unknown f ≡ true
+unknown_is : (f : Option ℕ) → f ≡ None → is_unknown f ≡ true
 unfolding is_unknown
 unknown_is f e = rw e
 
@@ -81,7 +80,7 @@ unknown_first : (c : Customer) (l : List Customer) (k : ℕ) (x : List ℕ) → 
 unfolding place_from pick is_unknown
 unknown_first c l k x e = go (same c.who x) refl e
   where
-    go : (t : Bool) → same c.who x ≡ t → is_unknown (pick t (At k) (place_from (k + 1) x l)) ≡ true → (same c.who x ≡ false)
+    go : (t : Bool) → same c.who x ≡ t → is_unknown (pick t (Some k) (place_from (k + 1) x l)) ≡ true → (same c.who x ≡ false)
         × (is_unknown (place_from (k + 1) x l) ≡ true)
     go true f g = let z : ◌≡◌ {A = Bool} false true = g in (cc, cc)
     go false f g = (f, g)
@@ -139,21 +138,21 @@ each_more (b ∷ l) c o a = join _ _ (left _ _ a) (each_more l c o (right _ _ a)
 -- ---- each has the place that is found for it
 
 pub place_own : (l : List Customer) (i k : ℕ) (d : Customer) → distinct l ≡ true → i < length l → place_from k (get_or l i d).who l
-    ≡ At (k + i)
+    ≡ Some (k + i)
 unfolding distinct place_from
 place_own [] i k d a h = absurd (not-suc-le-zero h)
-place_own (c ∷ l) zero k d a h = picks _ _ _ (eq-same c.who c.who refl) ∙ ap At (sym (add-zero k))
+place_own (c ∷ l) zero k d a h = picks _ _ _ (eq-same c.who c.who refl) ∙ ap Some (sym (add-zero k))
 place_own (c ∷ l) (suc i) k d a h =
     let b : distinct l ≡ true = right _ _ a in
     let m : i < length l = le_of_suc-le-suc h in
     let n : same c.who (get_or l i d).who ≡ false = refuted _ (λ e. clash e (place_own l i 0 d b m)) in
     let q : k + 1 + i ≡ k + suc i = omega arith in
-    skips _ _ _ n ∙ place_own l i (k + 1) d b m ∙ ap At q
+    skips _ _ _ n ∙ place_own l i (k + 1) d b m ∙ ap Some q
   where
-    clash : same c.who (get_or l i d).who ≡ true → place_from 0 (get_or l i d).who l ≡ At (0 + i) → ⊥
+    clash : same c.who (get_or l i d).who ≡ true → place_from 0 (get_or l i d).who l ≡ Some (0 + i) → ⊥
     clash e p =
-        let u : place_from 0 c.who l ≡ Unknown = is_unknown_lem _ (left _ _ a) in
-        let v : At (0 + i) ≡ Unknown = sym p ∙ ap (λ (w : List ℕ). place_from 0 w l) (sym (same-eq _ _ e)) ∙ u in
+        let u : place_from 0 c.who l ≡ None = is_unknown_lem _ (left _ _ a) in
+        let v : Some (0 + i) ≡ None = sym p ∙ ap (λ (w : List ℕ). place_from 0 w l) (sym (same-eq _ _ e)) ∙ u in
         let z : ◌≡◌ {A = ℕ} 0 1 = cc in
         omega arith
 
@@ -176,7 +175,7 @@ unfolding place_of customer_in with_customer
 same_place t i c who e = place_set t.customers i c nobody e 0 who
 
 -- a place that is found is in the table and has the name
-pub found_is : (t : Table) (who : List ℕ) (i : ℕ) → place_of t who ≡ At i → (i < length t.customers) × ((customer_in t i).who ≡ who)
+pub found_is : (t : Table) (who : List ℕ) (i : ℕ) → place_of t who ≡ Some i → (i < length t.customers) × ((customer_in t i).who ≡ who)
 unfolding place_of customer_in
 found_is t who i e =
     let p = place_below t.customers 0 who i e in
@@ -188,25 +187,25 @@ unfolding customer_in
 distinct_with t i c e a = distinct-set t.customers i c nobody e a
 
 -- each customer's name is found at its own place
-pub unique_from : (t : Table) (i : ℕ) → distinct t.customers ≡ true → i < length t.customers → place_of t (customer_in t i).who ≡ At i
+pub unique_from : (t : Table) (i : ℕ) → distinct t.customers ≡ true → i < length t.customers → place_of t (customer_in t i).who ≡ Some i
 unfolding place_of customer_in
 unique_from t i a h =
     let q : 0 + i ≡ i = omega arith in
-    place_own t.customers i 0 nobody a h ∙ ap At q
+    place_own t.customers i 0 nobody a h ∙ ap Some q
 
-pub unknown_of : (t : Table) (who : List ℕ) → place_of t who ≡ Unknown → is_unknown (place_from 0 who t.customers) ≡ true
+pub unknown_of : (t : Table) (who : List ℕ) → place_of t who ≡ None → is_unknown (place_from 0 who t.customers) ≡ true
 unfolding place_of
 unknown_of t who e = unknown_is _ e
 
 -- ---- the customer who is named
 
-pub named_at : (t : Table) (who : List ℕ) (i : ℕ) → place_of t who ≡ At i → named t who ≡ customer_in t i
+pub named_at : (t : Table) (who : List ℕ) (i : ℕ) → place_of t who ≡ Some i → named t who ≡ customer_in t i
 unfolding named customer_at
 named_at t who i p = ap (customer_at t) p
 
-pub with_named_at : (t : Table) (who : List ℕ) (i : ℕ) (c : Customer) → place_of t who ≡ At i → with_named t who c ≡ with_customer t i c
+pub with_named_at : (t : Table) (who : List ℕ) (i : ℕ) (c : Customer) → place_of t who ≡ Some i → with_named t who c ≡ with_customer t i c
 unfolding with_named replaced_at
-with_named_at t who i c p = ap (λ (f : Found). replaced_at t f c) p
+with_named_at t who i c p = ap (λ (f : Option ℕ). replaced_at t f c) p
 
 -- ---- another day and another seed leave every customer
 

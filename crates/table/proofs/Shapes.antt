@@ -1,5 +1,6 @@
 -- A record that fits and is sound is read back as it was written: each of its numbers is below what its bytes hold.
 -- Assumes nothing.
+use Rattle.std.specs.Prelude.{None, Option, Some}
 use mathlib.Core.Path.{◌≡◌, sym, ◌∙◌}
 use mathlib.Core.List.{List, [], ◌∷◌}
 use mathlib.Core.Bool.{true}
@@ -14,14 +15,13 @@ use Rattle.ground.proofs.Lists.{each_below}
 use Rattle.calendar.specs.Dates.{real_date}
 use Rattle.customer.specs.Customer.{sound_previous, sound_keys, real_stamp, sound_stamps, sound_customer}
 use Rattle.customer.specs.Settings.{sound_settings}
-use Rattle.customer.specs.declared.Previous.{Previous}
-use Rattle.customer.specs.declared.Previous.TheVariants.{Nothing, Held}
 use Rattle.customer.specs.declared.KeyPair.{KeyPair}
 use Rattle.customer.specs.declared.Customer.{Customer}
 use Rattle.customer.specs.declared.Settings.{Settings}
 use Rattle.codec.specs.Layout.{perhaps, Fits}
 use Rattle.customer_bytes.specs.Layout.{previous_held, pair_shape, customer_shape, settings_shape, previous_to, pair_to, customer_to, settings_to}
 use Rattle.table.specs.Table.{word, previous_fits, pair_fits, customer_fits, settings_fit}
+use Rattle.customer.specs.declared.Changeover.{Changeover}
 
 -- ---- keys
 
@@ -32,11 +32,11 @@ real_lt d e = let h = ltb-true d 1000000 (left _ _ e) in omega arith
 word_lt : (x : ℕ) → word x ≡ true → x < 256 ^ 8
 word_lt x e = omega (arith, ltb-true x (2 ^ 64) e)
 
-previous_shaped : (current : ℕ) (p : Previous) → previous_fits p ≡ true → sound_previous current p ≡ true
+previous_shaped : (current : ℕ) (p : Option Changeover) → previous_fits p ≡ true → sound_previous current p ≡ true
     → Fits (perhaps previous_held) (previous_to p)
 unfolding previous_fits sound_previous
-previous_shaped current Nothing f e = tt
-previous_shaped current (Held p) f e =
+previous_shaped current None f e = tt
+previous_shaped current (Some p) f e =
     let e₃ = right _ _ (right _ _ (right _ _ e)) in
     let g = leb-true p.generation 9 (left _ _ e) in
     (omega arith, (word_lt p.key f, (real_lt p.first.yymmdd (left _ _ e₃), real_lt p.last.yymmdd (left _ _ (right _ _ e₃)))))

@@ -1,5 +1,6 @@
 -- What is right of a sound table, and that the changes which a call may make keep it so: each is one part of the test.
 -- Assumes nothing.
+use Rattle.std.specs.Prelude.{None, Some}
 use mathlib.Core.Path.{◌≡◌}
 use mathlib.Core.List.{[], ◌∷◌, ◌++◌}
 use mathlib.Core.Bool.{true}
@@ -15,7 +16,6 @@ use Rattle.customer.specs.Settings.{sound_settings}
 use Rattle.customer.specs.declared.Customer.{Customer}
 use Rattle.table.specs.Table.{Table, customer_fits, settings_fit, rising, distinct, each_sound, sound_table, place_of, customer_in}
 use Rattle.table.specs.Table.{with_customer, with_added, with_day, with_seed}
-use Rattle.table.specs.declared.Found.TheVariants.{At, Unknown}
 use Rattle.table.proofs.Places
 
 pub record Sound (t : Table) : Type 0 where
@@ -83,7 +83,7 @@ sound_with t i c e f o w =
 
 -- one customer more, whose name is not there, where there is room
 pub sound_added : (t : Table) (c : Customer) → sound_table t ≡ true → customer_fits c ≡ true → sound_customer c ≡ true
-    → place_of t c.who ≡ Unknown → length t.customers < 32 → sound_table (with_added t c) ≡ true
+    → place_of t c.who ≡ None → length t.customers < 32 → sound_table (with_added t c) ≡ true
 unfolding with_added
 sound_added t c e f o u n =
     let s = parts t e in
@@ -141,5 +141,5 @@ sound_seed t v e h =
     })
 
 -- each customer's name is found at its own place
-pub unique : (t : Table) (i : ℕ) → sound_table t ≡ true → i < length t.customers → place_of t (customer_in t i).who ≡ At i
+pub unique : (t : Table) (i : ℕ) → sound_table t ≡ true → i < length t.customers → place_of t (customer_in t i).who ≡ Some i
 unique t i e h = Places.unique_from t i (parts t e).distinct h

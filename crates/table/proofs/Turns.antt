@@ -1,5 +1,6 @@
 -- A turn of the loops over dates and over records: the first of a run, and the run past it.
 -- Assumes nothing.
+use Rattle.std.specs.Prelude.{None, Some}
 use mathlib.Core.Path.{◌≡◌, refl, sym, ap, ◌∙◌}
 use mathlib.Core.List.{List, [], ◌∷◌}
 use mathlib.Core.Bool.{Bool, true}
@@ -22,7 +23,6 @@ use Rattle.customer.specs.Customer.{sound_customer}
 use Rattle.customer.specs.declared.Customer.{Customer}
 use Rattle.table.specs.Table.{rising, place_from, is_unknown}
 use Rattle.table.specs.Tests.{dates_at, customers_at, ok_dates, ok_records}
-use Rattle.table.specs.declared.Found.TheVariants.{At, Unknown}
 
 -- ---- n from p on, where n is m + 1
 
@@ -100,14 +100,14 @@ unfolding ok_dates all rising both
 dates_empty p n b e = rw (dates_none p n b e)
 
 pub place_step : (i : ℕ) (x : List ℕ) (p n m : ℕ) (b : List ℕ) → n ≡ suc m
-    → place_from i x (customers_at p n b) ≡ pick (same x (part p 25 b)) (At i) (place_from (i + 1) x (customers_at (p + record_width) m b))
+    → place_from i x (customers_at p n b) ≡ pick (same x (part p 25 b)) (Some i) (place_from (i + 1) x (customers_at (p + record_width) m b))
 unfolding place_from
 place_step i x p n m b e =
     ap (place_from i x) (customers_suc p n m b e)
-    ∙ ap (λ (t : Bool). pick t (At i) (place_from (i + 1) x (customers_at (p + record_width) m b)))
+    ∙ ap (λ (t : Bool). pick t (Some i) (place_from (i + 1) x (customers_at (p + record_width) m b)))
     (ap (λ (y : List ℕ). same y x) (who_at p b) ∙ same_turned (part p 25 b) x)
 
-pub place_end : (i : ℕ) (x : List ℕ) (p n : ℕ) (b : List ℕ) → n ≡ 0 → place_from i x (customers_at p n b) ≡ Unknown
+pub place_end : (i : ℕ) (x : List ℕ) (p n : ℕ) (b : List ℕ) → n ≡ 0 → place_from i x (customers_at p n b) ≡ None
 unfolding place_from
 place_end i x p n b e = rw (customers_none p n b e)
 

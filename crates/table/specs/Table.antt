@@ -1,18 +1,15 @@
 -- A table, and which tables there are (document 01, 'Covered', 'Call refusals'; our reading 72).
 -- Assumes nothing.
-use Rattle.std.specs.Prelude.{ℕ, ◌+◌, ◌^◌, Bool, true, false, List, [], ◌∷◌, ◌++◌, eqb, ltb, leb, length, get_or, set, replicate}
+use Rattle.std.specs.Prelude.{ℕ, ◌+◌, ◌^◌, Bool, true, false, List, [], ◌∷◌, ◌++◌, eqb, ltb, leb, length, get_or, set, replicate, None, Option, Some}
 use Rattle.ground.specs.Choice.{both, pick}
 use Rattle.ground.specs.Lists.{all, same}
 use Rattle.calendar.specs.Dates.{real_date, earlier}
 use Rattle.customer.specs.Customer.{sound_customer}
 use Rattle.customer.specs.Settings.{sound_settings}
-use Rattle.customer.specs.declared.Previous.{Previous}
-use Rattle.customer.specs.declared.Previous.TheVariants.{Nothing, Held}
 use Rattle.customer.specs.declared.KeyPair.{KeyPair}
 use Rattle.customer.specs.declared.Customer.{Customer}
 use Rattle.customer.specs.declared.Settings.{Settings}
-use Rattle.table.specs.declared.Found.{Found}
-use Rattle.table.specs.declared.Found.TheVariants.{At, Unknown}
+use Rattle.customer.specs.declared.Changeover.{Changeover}
 
 -- a table: the day, the bank's settings, the holidays, the customers
 pub record Table : Type 0 where
@@ -31,9 +28,9 @@ bytes l = all (λ x. ltb x 256) l
 abbrev pub word : ℕ → Bool
 word x = ltb x (2 ^ 64)
 
-unfoldable pub previous_fits : Previous → Bool
-previous_fits Nothing = true
-previous_fits (Held p) = word p.key
+unfoldable pub previous_fits : Option Changeover → Bool
+previous_fits None = true
+previous_fits (Some p) = word p.key
 
 abbrev pub pair_fits : KeyPair → Bool
 pair_fits k = both (word k.key) (previous_fits k.previous)
@@ -60,13 +57,13 @@ rising (x ∷ []) = true
 rising (x ∷ y ∷ l) = both (earlier x y) (rising (y ∷ l))
 
 -- the first customer with that identity and qualifier, all 25 characters, counted from i
-unfoldable pub place_from : ℕ → List ℕ → List Customer → Found
-place_from i who [] = Unknown
-place_from i who (c ∷ l) = pick (same c.who who) (At i) (place_from (i + 1) who l)
+unfoldable pub place_from : ℕ → List ℕ → List Customer → Option ℕ
+place_from i who [] = None
+place_from i who (c ∷ l) = pick (same c.who who) (Some i) (place_from (i + 1) who l)
 
-unfoldable pub is_unknown : Found → Bool
-is_unknown (At i) = false
-is_unknown Unknown = true
+unfoldable pub is_unknown : Option ℕ → Bool
+is_unknown (Some i) = false
+is_unknown None = true
 
 -- no identity with qualifier is there twice
 unfoldable pub distinct : List Customer → Bool
@@ -89,12 +86,12 @@ sound_table t =
 
 -- ---- who is in a table, and what a call may change
 
-unfoldable pub place_of : Table → List ℕ → Found
+unfoldable pub place_of : Table → List ℕ → Option ℕ
 place_of t who = place_from 0 who t.customers
 
 -- the customer of all-zero bytes, which is in no table
 abbrev pub no_keys : KeyPair
-no_keys = record { generation = 0; key = 0; previous = Nothing }
+no_keys = record { generation = 0; key = 0; previous = None }
 
 unfoldable pub nobody : Customer
 nobody =

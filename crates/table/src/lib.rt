@@ -18,12 +18,6 @@ use crate::parts::{
 };
 
 #[derive(Drop)]
-pub enum Found {
-    At(usize),
-    Unknown,
-}
-
-#[derive(Drop)]
 pub struct Holidays {
     pub count: u32,
     pub dates: [u32; 200],
@@ -105,11 +99,11 @@ pub fn customer_count(t: &[u8]) -> u32
 }
 
 // The place of the customer with that identity and qualifier.
-pub fn find(t: &[u8], who: [u8; 25]) -> Found
+pub fn find(t: &[u8], who: [u8; 25]) -> Option<usize>
     ensures { result ≡ place_of (table_of t.now) who }
 {
     if t.len() != SIZE {
-        return Found::Unknown;
+        return None;
     }
     find_from(t, customers_start(t), count_customers(t), who)
 }

@@ -7,7 +7,6 @@ ghost use Rattle.table.specs.Written.{settings_start, customers_start};
 ghost use Rattle.table.specs.Decode.{holiday_count, customer_count};
 ghost use Rattle.table.specs.Tests.{dates_at, customers_at, filled};
 
-use crate::Found;
 
 pub(crate) const SIZE: usize = 49152;
 
@@ -85,7 +84,7 @@ pub(crate) fn same_at(t: &[u8], at: usize, who: [u8; 25]) -> bool
 }
 
 // The place of that identity and qualifier among the n customers who stand from `at` on.
-pub(crate) fn find_from(t: &[u8], at: usize, n: usize, who: [u8; 25]) -> Found
+pub(crate) fn find_from(t: &[u8], at: usize, n: usize, who: [u8; 25]) -> Option<usize>
     requires { at + 1109 * n ≤ length t.now }
     ensures { result ≡ place_from 0 who (customers_at at n t.now) }
 {
@@ -93,12 +92,12 @@ pub(crate) fn find_from(t: &[u8], at: usize, n: usize, who: [u8; 25]) -> Found
     let mut i = 0;
     while i < n {
         if same_at(t, p, who) {
-            return Found::At(i);
+            return Some(i);
         }
         p += 1109;
         i += 1;
     }
-    Found::Unknown
+    None
 }
 
 // Whether the same eight bytes stand at a and at b.

@@ -1,5 +1,6 @@
 -- The records that the calls write fit their places and are sound: a new one, and one with a changed key.
 -- Assumes nothing.
+use Rattle.std.specs.Prelude.{None}
 use mathlib.Core.Path.{◌≡◌, refl, ap, ap₂, ◌∙◌}
 use mathlib.Core.Bool.{true}
 use Prim.Native.Nat.{ℕ, ◌^◌, ◌≤◌, ◌<◌}
@@ -12,7 +13,6 @@ use Rattle.keys.specs.Keys.{combined, working_key0}
 use Rattle.keys.proofs.Laws.{combined_odd, combined-lt, working_key_0_odd, working_key_0_lt}
 use Rattle.customer.specs.Customer.{sound_previous, sound_keys, sound_stamps, sound_customer}
 use Rattle.customer.specs.Settings.{sound_who}
-use Rattle.customer.specs.declared.Previous.TheVariants.{Nothing}
 use Rattle.customer.specs.declared.KeyPair.{KeyPair}
 use Rattle.customer.specs.declared.Customer.{Customer}
 use Rattle.calendar.specs.declared.CalendarDays.{CalendarDays}
@@ -61,8 +61,8 @@ new_by a days key first =
       agreed = a.agreed;
       leave = a.leave;
       length = days;
-      transport = record { generation = a.generation; key = key; previous = Nothing };
-      working = record { generation = 0; key = first; previous = Nothing };
+      transport = record { generation = a.generation; key = key; previous = None };
+      working = record { generation = 0; key = first; previous = None };
       count = 0;
       stamps = replicate 64 0;
       once = replicate 64 0;

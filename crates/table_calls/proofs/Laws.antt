@@ -1,5 +1,6 @@
 -- What the calls promise: which refusal is given, what a refused call leaves, and what a served one keeps.
 -- Assumes nothing.
+use Rattle.std.specs.Prelude.{None, Option, Some}
 use mathlib.Core.Path.{◌≡◌, refl, sym, ap, ◌∙◌}
 use mathlib.Core.List.{List, [], ◌∷◌}
 use mathlib.Core.Bool.{Bool, true, false}
@@ -17,8 +18,6 @@ use Rattle.keys.specs.Maker.{next_seed}
 use Rattle.customer.specs.declared.Customer.{Customer}
 use Rattle.customer.specs.declared.Settings.{Settings}
 use Rattle.table.specs.Table.{Table, place_of, nobody, customer_in, with_customer, with_added, with_day, with_seed}
-use Rattle.table.specs.declared.Found.{Found}
-use Rattle.table.specs.declared.Found.TheVariants.{At, Unknown}
 use Rattle.table.specs.Named.{replaced_at, with_named}
 use Rattle.table.specs.Written.{WrittenAs}
 use Rattle.table.specs.Decode.{table_of, is_table}
@@ -154,17 +153,17 @@ pub added_others : (t : Table) (a : Adding) (i : ℕ) → i < length t.customers
 unfolding customer_in added_to with_day with_added
 added_others t a i h = get_or-append t.customers (new_customer a ∷ []) nobody i h
 
-named_others : (t : Table) (who : List ℕ) (i j : ℕ) (c : Customer) → place_of t who ≡ At i → (i ≡ j → ⊥)
+named_others : (t : Table) (who : List ℕ) (i j : ℕ) (c : Customer) → place_of t who ≡ Some i → (i ≡ j → ⊥)
     → customer_in (with_named t who c) j ≡ customer_in t j
 named_others t who i j c p n = ap (λ (u : Table). customer_in u j) (with_named_at t who i c p) ∙ others_stay t i j c n
 
 -- every customer but the one named is as before
-pub entered_others : (t : Table) (e : Entering) (i j : ℕ) → place_of t e.who ≡ At i → (i ≡ j → ⊥) → customer_in (entered_in t e) j
+pub entered_others : (t : Table) (e : Entering) (i j : ℕ) → place_of t e.who ≡ Some i → (i ≡ j → ⊥) → customer_in (entered_in t e) j
     ≡ customer_in t j
 unfolding entered_in
 entered_others t e i j p n = day_in _ _ j ∙ named_others t e.who i j _ p n
 
-pub ordered_others : (t : Table) (o : Ordering) (i j : ℕ) → place_of t o.who ≡ At i → (i ≡ j → ⊥) → customer_in (ordered_in t o) j
+pub ordered_others : (t : Table) (o : Ordering) (i j : ℕ) → place_of t o.who ≡ Some i → (i ≡ j → ⊥) → customer_in (ordered_in t o) j
     ≡ customer_in t j
 unfolding ordered_in
 ordered_others t o i j p n = day_in _ _ j ∙ seed_in _ _ j ∙ named_others t o.who i j _ p n
@@ -182,11 +181,11 @@ pub added_keeps : (t : Table) (a : Adding) → (Kept t (added_to t a)) × ((adde
 unfolding added_to with_day with_added
 added_keeps t a = (record { bank = refl; software = refl; floor = refl; key = refl; holidays = refl }, refl)
 
-replaced_keeps : (t : Table) (f : Found) (c : Customer) → ((replaced_at t f c).settings ≡ t.settings)
+replaced_keeps : (t : Table) (f : Option ℕ) (c : Customer) → ((replaced_at t f c).settings ≡ t.settings)
     × ((replaced_at t f c).holidays ≡ t.holidays)
 unfolding replaced_at with_customer
-replaced_keeps t (At i) c = (refl, refl)
-replaced_keeps t Unknown c = (refl, refl)
+replaced_keeps t (Some i) c = (refl, refl)
+replaced_keeps t None c = (refl, refl)
 
 named_keeps : (t : Table) (who : List ℕ) (c : Customer) → ((with_named t who c).settings ≡ t.settings)
     × ((with_named t who c).holidays ≡ t.holidays)

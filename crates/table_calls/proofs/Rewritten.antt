@@ -1,5 +1,6 @@
 -- Parts written one after the other: what is there after each is a table again, and the last one written is the whole.
 -- Assumes nothing.
+use Rattle.std.specs.Prelude.{Some}
 use mathlib.Core.Path.{◌≡◌, refl, sym, ap, ◌∙◌}
 use mathlib.Core.List.{List, [], ◌∷◌, ◌++◌}
 use mathlib.Core.Bool.{true}
@@ -14,7 +15,6 @@ use Rattle.calendar.specs.Dates.{real_date}
 use Rattle.customer.specs.Customer.{sound_customer}
 use Rattle.customer.specs.declared.Customer.{Customer}
 use Rattle.table.specs.Table.{Table, customer_fits, each_sound, sound_table, place_of, nobody, customer_in, with_day, with_seed}
-use Rattle.table.specs.declared.Found.TheVariants.{At}
 use Rattle.table.specs.Named.{named, with_named}
 use Rattle.table.specs.Written.{encode, written}
 use Rattle.table.specs.Decode.{table_of, is_table}
@@ -94,7 +94,7 @@ each_at [] i d e h = absurd (not-suc-le-zero h)
 each_at (c ∷ l) zero d e h = left _ _ e
 each_at (c ∷ l) (suc i) d e h = each_at l i d (right _ _ e) (le_of_suc-le-suc h)
 
-module _ (t : Table) (s : sound_table t ≡ true) (who : List ℕ) (i : ℕ) (p : place_of t who ≡ At i) where
+module _ (t : Table) (s : sound_table t ≡ true) (who : List ℕ) (i : ℕ) (p : place_of t who ≡ Some i) where
   here : both (customer_fits (customer_in t i)) (sound_customer (customer_in t i)) ≡ true
   unfolding customer_in
   here = each_at t.customers i nobody (Sound.parts t s).each (found_is t who i p).0
@@ -112,7 +112,7 @@ module _ (t : Table) (s : sound_table t ≡ true) (who : List ℕ) (i : ℕ) (p 
       ap sound_table (with_named_at t who i c p)
       ∙ Sound.sound_with t i c s f o (w ∙ ap (λ (d : Customer). d.who) (named_at t who i p))
 
-pub stored_named : (b : List ℕ) → is_table b ≡ true → (who : List ℕ) (i : ℕ) → place_of (table_of b) who ≡ At i
+pub stored_named : (b : List ℕ) → is_table b ≡ true → (who : List ℕ) (i : ℕ) → place_of (table_of b) who ≡ Some i
     → (c : Customer) → customer_fits c ≡ true → customer_stored b i c ≡ written b (with_named (table_of b) who c)
 stored_named b e who i p c f =
     Stores.store_is b e i c (found_is (table_of b) who i p).0 f

@@ -1,5 +1,6 @@
 -- A call that is served: no refusal holds, so that the table after it is sound, and the parts that it writes make up that table.
 -- Assumes nothing.
+use Rattle.std.specs.Prelude.{None, Option, Some}
 use mathlib.Core.Path.{◌≡◌, refl, sym, ap, ap₂, subst, ◌∙◌}
 use mathlib.Core.List.{List}
 use mathlib.Core.Bool.{true, false}
@@ -22,8 +23,6 @@ use Rattle.customer.specs.declared.Settings.{Settings}
 use Rattle.changeover.specs.Changes.{with_transport, with_working}
 use Rattle.changeover.proofs.Laws.{with_transport_sound, with_working_sound}
 use Rattle.table.specs.Table.{settings_fit, customer_fits, rising, distinct, each_sound, sound_table, place_of, customer_in, with_added, with_seed}
-use Rattle.table.specs.declared.Found.{Found}
-use Rattle.table.specs.declared.Found.TheVariants.{At, Unknown}
 use Rattle.table.specs.Named.{named, with_named}
 use Rattle.table.specs.Written.{table_size, written, WrittenAs}
 use Rattle.table.specs.Decode.{table_of, is_table}
@@ -38,8 +37,6 @@ use Rattle.table_calls.specs.Calls.{new_customer, new_table, added_to, entered_i
 use Rattle.table_calls.specs.Calls.{setting_up_leaves, adding_refusals, adding_answer, adding_leaves, entering_refusals, entering_answer}
 use Rattle.table_calls.specs.Calls.{entering_leaves, ordering_refusals, ordering_answer, ordering_leaves}
 use Rattle.refusals.specs.Length.{length_of}
-use Rattle.refusals.specs.declared.Length.{Length}
-use Rattle.refusals.specs.declared.Length.TheVariants.{Given, LeftOut}
 use Rattle.table_calls.specs.declared.Setting.{Setting}
 use Rattle.table_calls.specs.declared.Adding.{Adding}
 use Rattle.table_calls.specs.declared.Entering.{Entering}
@@ -48,6 +45,7 @@ use Rattle.refusals.proofs.Refused.{served, opened}
 use Rattle.table_calls.proofs.Rewritten
 use Rattle.table_calls.proofs.Rewritten.{served_leaves, day_after, seed_after}
 use Rattle.table_calls.proofs.Customers
+use Rattle.calendar.specs.declared.CalendarDays.{CalendarDays}
 
 -- ---- set up
 
@@ -131,16 +129,16 @@ pub record AddingServed (b : List ℕ) (a : Adding) : Type 0 where
   pub real : real_date a.today.yymmdd ≡ true
   pub day : earlier a.today.yymmdd (table_of b).day ≡ false
   pub room : length (table_of b).customers < 32
-  pub new : place_of (table_of b) a.who ≡ Unknown
+  pub new : place_of (table_of b) a.who ≡ None
   pub who : sound_who a.who ≡ true
   pub generation : a.generation ≤ 9
   pub types : a.types < 2 ^ 16
   pub days : between 1 60 (length_of a.length).0 ≡ true
 
-good_length : (l : Length) → bad_length l ≡ false → between 1 60 (length_of l).0 ≡ true
+good_length : (l : Option CalendarDays) → bad_length l ≡ false → between 1 60 (length_of l).0 ≡ true
 unfolding bad_length length_of
-good_length (Given n) e = fails-false _ e
-good_length LeftOut e = thirty
+good_length (Some n) e = fails-false _ e
+good_length None e = thirty
   where
     thirty : between 1 60 30 ≡ true
     thirty = between_in 1 60 30 (omega arith) (omega arith)
@@ -202,7 +200,7 @@ module _ (b : List ℕ) (a : Adding) (z : adding_answer b a ≡ 0) (n : length a
 
 -- ---- a customer that is there
 
-apart : (f : Found) → ((i : ℕ) × (f ≡ At i)) → f ≡ Unknown → ⊥
+apart : (f : Option ℕ) → ((i : ℕ) × (f ≡ Some i)) → f ≡ None → ⊥
 apart f p q = let e = p.1 in let z : ◌≡◌ {A = ℕ} 0 1 = cc in omega arith
 
 -- ---- enter a transport key
@@ -211,7 +209,7 @@ pub record EnteringServed (b : List ℕ) (e : Entering) : Type 0 where
   pub table : is_table b ≡ true
   pub real : real_date e.today.yymmdd ≡ true
   pub day : earlier e.today.yymmdd (table_of b).day ≡ false
-  pub place : (i : ℕ) × (place_of (table_of b) e.who ≡ At i)
+  pub place : (i : ℕ) × (place_of (table_of b) e.who ≡ Some i)
   pub next : e.generation ≡ next_generation (named (table_of b) e.who).transport.generation
 
 pub entering_served : (b : List ℕ) (e : Entering) → entering_answer b e ≡ 0 → EnteringServed b e
@@ -267,7 +265,7 @@ module _ (b : List ℕ) (e : Entering) (z : entering_answer b e ≡ 0) where
       (ap is_table enter_leaves ∙ r.0, ap table_of enter_leaves ∙ r.1)
 
   -- what the two writes leave, at the place that is found
-  pub entered_is : (i : ℕ) (d : Customer) (k : ℕ) (c : Customer) (x y : List ℕ) → place_of (table_of b) e.who ≡ At i
+  pub entered_is : (i : ℕ) (d : Customer) (k : ℕ) (c : Customer) (x y : List ℕ) → place_of (table_of b) e.who ≡ Some i
       → d ≡ customer_in (table_of b) i → k ≡ combined e.part1 e.part2 → c ≡ with_transport d e.generation k e.today
       → x ≡ customer_stored b i c → y ≡ day_stored x e.today.yymmdd → y ≡ entering_leaves b e
   unfolding entered_in
@@ -279,7 +277,7 @@ module _ (b : List ℕ) (e : Entering) (z : entering_answer b e ≡ 0) where
       q ∙ ap (customer_stored b i) is ∙ Rewritten.stored_named b s_enter.table e.who i p entered entered_fits in
       r ∙ day_after b x _ s_enter.table with_entered w _ s_enter.real ∙ sym enter_leaves
 
-pub entering_there : (b : List ℕ) (e : Entering) → entering_answer b e ≡ 0 → place_of (table_of b) e.who ≡ Unknown → ⊥
+pub entering_there : (b : List ℕ) (e : Entering) → entering_answer b e ≡ 0 → place_of (table_of b) e.who ≡ None → ⊥
 entering_there b e z = apart _ (entering_served b e z).place
 
 -- ---- order a new working key
@@ -288,7 +286,7 @@ pub record OrderingServed (b : List ℕ) (o : Ordering) : Type 0 where
   pub table : is_table b ≡ true
   pub real : real_date o.today.yymmdd ≡ true
   pub day : earlier o.today.yymmdd (table_of b).day ≡ false
-  pub place : (i : ℕ) × (place_of (table_of b) o.who ≡ At i)
+  pub place : (i : ℕ) × (place_of (table_of b) o.who ≡ Some i)
 
 pub ordering_served : (b : List ℕ) (o : Ordering) → ordering_answer b o ≡ 0 → OrderingServed b o
 unfolding ordering_answer ordering_refusals no_such_customer
@@ -349,7 +347,7 @@ module _ (b : List ℕ) (o : Ordering) (z : ordering_answer b o ≡ 0) where
       (ap is_table order_leaves ∙ r.0, ap table_of order_leaves ∙ r.1)
 
   -- what the three writes leave, at the place that is found
-  pub ordered_is : (i : ℕ) (d : Customer) (g : Settings) (k v : ℕ) (c : Customer) (x y w : List ℕ) → place_of (table_of b) o.who ≡ At i
+  pub ordered_is : (i : ℕ) (d : Customer) (g : Settings) (k v : ℕ) (c : Customer) (x y w : List ℕ) → place_of (table_of b) o.who ≡ Some i
       → d ≡ customer_in (table_of b) i → g ≡ (table_of b).settings
       → (k ≡ key_of g.maker.key g.maker.seed o.clock) × (v ≡ next_seed g.maker.key g.maker.seed o.clock)
       → c ≡ with_working d k o.today
@@ -366,5 +364,5 @@ module _ (b : List ℕ) (o : Ordering) (z : ordering_answer b o ≡ 0) where
       r ∙ ap (seed_stored x) m ∙ seed_after b x _ s_order.table with_ordered x_is moved moved-lt in
       s ∙ day_after b y _ s_order.table with_moved y_is _ s_order.real ∙ sym order_leaves
 
-pub ordering_there : (b : List ℕ) (o : Ordering) → ordering_answer b o ≡ 0 → place_of (table_of b) o.who ≡ Unknown → ⊥
+pub ordering_there : (b : List ℕ) (o : Ordering) → ordering_answer b o ≡ 0 → place_of (table_of b) o.who ≡ None → ⊥
 ordering_there b o z = apart _ (ordering_served b o z).place

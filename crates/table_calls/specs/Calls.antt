@@ -1,13 +1,12 @@
 -- The four calls that keep a table: what refuses each, what each makes of a table, and what that leaves of the lent bytes.
 -- Assumes nothing.
-use Rattle.std.specs.Prelude.{ℕ, ◌^◌, List, [], ◌∷◌, eqb, ltb, leb, length, replicate}
+use Rattle.std.specs.Prelude.{ℕ, ◌^◌, List, [], ◌∷◌, eqb, ltb, leb, length, replicate, None}
 use Rattle.ground.specs.Choice.{either, fails, pick}
 use Rattle.ground.specs.Lists.{all}
 use Rattle.calendar.specs.Dates.{real_date}
 use Rattle.keys.specs.Keys.{combined, working_key0}
 use Rattle.keys.specs.Maker.{key_of, next_seed}
 use Rattle.customer.specs.Settings.{sound_who, sound_name}
-use Rattle.customer.specs.declared.Previous.TheVariants.{Nothing}
 use Rattle.customer.specs.declared.Customer.{Customer}
 use Rattle.changeover.specs.Held.{changing}
 use Rattle.changeover.specs.Changes.{with_transport, with_working}
@@ -78,8 +77,8 @@ new_customer a =
       agreed = a.agreed;
       leave = a.leave;
       length = length_of a.length;
-      transport = record { generation = a.generation; key = combined a.part1 a.part2; previous = Nothing };
-      working = record { generation = 0; key = working_key0 (combined a.part1 a.part2); previous = Nothing };
+      transport = record { generation = a.generation; key = combined a.part1 a.part2; previous = None };
+      working = record { generation = 0; key = working_key0 (combined a.part1 a.part2); previous = None };
       count = 0;
       stamps = replicate 64 0;
       once = replicate 64 0;

@@ -27,7 +27,7 @@ pub struct Adding {
     pub types: u32,
     pub agreed: bool,
     pub leave: bool,
-    pub length: refusals::Length,
+    pub length: Option<calendar::CalendarDays>,
 }
 
 #[derive(Clone, Copy)]
@@ -159,12 +159,12 @@ fn new_customer(a: Adding) -> customer::Customer
     let transport = customer::KeyPair {
         generation: a.generation,
         key: key,
-        previous: customer::Previous::Nothing,
+        previous: None,
     };
     let working = customer::KeyPair {
         generation: 0,
         key: first,
-        previous: customer::Previous::Nothing,
+        previous: None,
     };
     customer::Customer {
         who: who,
@@ -209,7 +209,7 @@ pub fn entering_refusal(t: &[u8], e: Entering) -> u32
         return 4;
     }
     let who = e.who;
-    let table::Found::At(i) = table::find(t, who) else {
+    let Some(i) = table::find(t, who) else {
         return 7;
     };
     if refusals::is_even_part(e.part1, e.part2) {
@@ -240,7 +240,7 @@ pub fn enter(t: &mut [u8], e: Entering) -> u32
     }
     let who = e.who;
     let today = e.today;
-    let table::Found::At(i) = table::find(t, who) else {
+    let Some(i) = table::find(t, who) else {
         return 0;
     };
     let c = table::load(t, i);
@@ -265,7 +265,7 @@ pub fn ordering_refusal(t: &[u8], o: Ordering) -> u32
         return 4;
     }
     let who = o.who;
-    let table::Found::At(i) = table::find(t, who) else {
+    let Some(i) = table::find(t, who) else {
         return 7;
     };
     let c = table::load(t, i);
@@ -287,7 +287,7 @@ pub fn order(t: &mut [u8], o: Ordering) -> u32
     }
     let who = o.who;
     let today = o.today;
-    let table::Found::At(i) = table::find(t, who) else {
+    let Some(i) = table::find(t, who) else {
         return 0;
     };
     let c = table::load(t, i);

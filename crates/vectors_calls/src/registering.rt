@@ -24,14 +24,14 @@ pub fn set_up(t: &mut [u8], line: &[u8]) -> u32 {
     set_up_with(t, s, days, h.count)
 }
 
-fn length_at(line: &[u8], number: usize) -> refusals::Length {
+fn length_at(line: &[u8], number: usize) -> Option<calendar::CalendarDays> {
     let word = vectors_words::word_at(line, number);
     if 0 < word.len() {
         if word[0] == b'-' {
-            return refusals::Length::LeftOut;
+            return None;
         }
     }
-    refusals::Length::Given(calendar::CalendarDays(small_at(line, number)))
+    Some(calendar::CalendarDays(small_at(line, number)))
 }
 
 // add DATE WHO P1 P2 CHECK GENERATION TYPES AGREED LEAVE LENGTH

@@ -4,7 +4,7 @@
 
 #![tactic(auto)]
 
-use changeover::Key;
+use Option<u64>;
 use reply::Answering;
 
 fn say(words: &[u8]) {
@@ -41,7 +41,7 @@ fn answering_with(
     code: u32,
     field: u32,
     contents: message::Contents,
-    keys: [Key; 3],
+    keys: [Option<u64>; 3],
 ) -> Answering {
     let working = keys[0];
     let transport = keys[1];
@@ -63,20 +63,20 @@ fn answering_with(
     }
 }
 
-fn answering(pte: bool, bare: bool, code: u32, field: u32, keys: [Key; 3]) -> Answering {
+fn answering(pte: bool, bare: bool, code: u32, field: u32, keys: [Option<u64>; 3]) -> Answering {
     let contents = message::field_contents(field, MESSAGE, 161);
     answering_with(pte, bare, code, field, contents, keys)
 }
 
-fn no_keys() -> [Key; 3] {
-    [Key::Missing, Key::Missing, Key::Missing]
+fn no_keys() -> [Option<u64>; 3] {
+    [None, None, None]
 }
 
-fn keys() -> [Key; 3] {
+fn keys() -> [Option<u64>; 3] {
     [
-        Key::Is(0x0123456789ABCDEF),
-        Key::Is(0x133457799BBCDFF1),
-        Key::Missing,
+        Some(0x0123456789ABCDEF),
+        Some(0x133457799BBCDFF1),
+        None,
     ]
 }
 
@@ -139,7 +139,7 @@ fn show_notices(code: u32) {
     }
 }
 
-fn enclosing(working: Key, transport: Key, enclosed: Key, bare: bool) {
+fn enclosing(working: Option<u64>, transport: Option<u64>, enclosed: Option<u64>, bare: bool) {
     show(
         answering(true, bare, 1003, 0, [working, transport, enclosed]),
         320,
@@ -147,12 +147,12 @@ fn enclosing(working: Key, transport: Key, enclosed: Key, bare: bool) {
 }
 
 // A key is enclosed where there is one and a transport key; the checksum needs a working key. A bare reply has neither.
-fn show_keys(working: Key, bare: bool) {
-    let transport = Key::Is(0x133457799BBCDFF1);
-    let enclosed = Key::Is(0x0E329232EA6D0D73);
+fn show_keys(working: Option<u64>, bare: bool) {
+    let transport = Some(0x133457799BBCDFF1);
+    let enclosed = Some(0x0E329232EA6D0D73);
     enclosing(working, transport, enclosed, bare);
-    enclosing(working, transport, Key::Missing, bare);
-    enclosing(working, Key::Missing, enclosed, bare);
+    enclosing(working, transport, None, bare);
+    enclosing(working, None, enclosed, bare);
 }
 
 // Rooms one byte too short, and long enough.
@@ -215,9 +215,9 @@ fn composed(pte: bool, message: [u8; 161], closing: [u8; 161]) -> [u8; 320] {
             software: *b"PANKKILINJA 1.20",
             message,
             closing,
-            working: Key::Is(0xAEBAE983D6406D07),
-            transport: Key::Missing,
-            enclosed: Key::Missing,
+            working: Some(0xAEBAE983D6406D07),
+            transport: None,
+            enclosed: None,
         },
     );
     room
@@ -260,9 +260,9 @@ fn main() {
     show_notices(1010);
     show_notices(1011);
     show_notices(1026);
-    show_keys(Key::Missing, false);
-    show_keys(Key::Is(0x7CA110454A1A6E57), false);
-    show_keys(Key::Is(0x7CA110454A1A6E57), true);
+    show_keys(None, false);
+    show_keys(Some(0x7CA110454A1A6E57), false);
+    show_keys(Some(0x7CA110454A1A6E57), true);
     show_rooms();
     show_customers();
     show_banks();

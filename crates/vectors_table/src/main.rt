@@ -2,7 +2,7 @@
 
 #![tactic(auto)]
 
-use customer::{Changeover, Customer, KeyPair, Previous};
+use customer::{Changeover, Customer, KeyPair};
 
 const STDOUT_FILENO: i32 = 1;
 
@@ -58,12 +58,12 @@ fn person(first: u8, second: u8) -> Customer {
         transport: KeyPair {
             generation: 0,
             key: 0x0202020202020202,
-            previous: Previous::Nothing,
+            previous: None,
         },
         working: KeyPair {
             generation: 1,
             key: 0x0404040404040404,
-            previous: Previous::Held(Changeover {
+            previous: Some(Changeover {
                 generation: 9,
                 key: 0x0808080808080808,
                 first: calendar::Date { yymmdd: 990101 },
@@ -102,8 +102,8 @@ fn fresh(t: &mut [u8]) {
 
 fn show_place(label: &[u8], t: &[u8], who: [u8; 25]) {
     match table::find(t, who) {
-        table::Found::At(i) => say_number(label, i as u64),
-        table::Found::Unknown => {
+        Some(i) => say_number(label, i as u64),
+        None => {
             say(label);
             say(b"unknown\n");
         }

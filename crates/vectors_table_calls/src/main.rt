@@ -3,7 +3,7 @@
 #![tactic(auto)]
 
 use calendar::CalendarDays;
-use refusals::Length;
+use Option<calendar::CalendarDays>;
 use table_calls::{Adding, Entering, Ordering, Setting};
 
 const STDOUT_FILENO: i32 = 1;
@@ -91,7 +91,7 @@ fn setting(floor: u32) -> Setting {
     }
 }
 
-fn adding_for(w: [u8; 25], today: u32, length: Length) -> Adding {
+fn adding_for(w: [u8; 25], today: u32, length: Option<CalendarDays>) -> Adding {
     Adding {
         today: date(today),
         who: w,
@@ -107,7 +107,7 @@ fn adding_for(w: [u8; 25], today: u32, length: Length) -> Adding {
 }
 
 fn adding(w: [u8; 25], today: u32) -> Adding {
-    adding_for(w, today, Length::LeftOut)
+    adding_for(w, today, None)
 }
 
 fn entering(w: [u8; 25], today: u32, generation: u32) -> Entering {
@@ -131,13 +131,13 @@ fn ordering(w: [u8; 25], today: u32) -> Ordering {
 
 // ---- what is there then
 
-fn show_last(label: &[u8], p: customer::Previous) {
+fn show_last(label: &[u8], p: Option<customer::Changeover>) {
     match p {
-        customer::Previous::Nothing => {
+        None => {
             say(label);
             say(b": none\n");
         }
-        customer::Previous::Held(c) => {
+        Some(c) => {
             let last = c.last;
             say_number(label, last.yymmdd as u64);
         }
@@ -274,13 +274,13 @@ fn lengths(t: &mut [u8]) {
     let w = other(b'L', b'A');
     answer(
         b"add, length 0, 11",
-        table_calls::add(t, adding_for(w, 991201, Length::Given(CalendarDays(0)))),
+        table_calls::add(t, adding_for(w, 991201, Some(CalendarDays(0)))),
     );
     answer(
         b"add, length 61, 11",
-        table_calls::add(t, adding_for(w, 991201, Length::Given(CalendarDays(61)))),
+        table_calls::add(t, adding_for(w, 991201, Some(CalendarDays(61)))),
     );
-    let mut c = adding_for(w, 991201, Length::Given(CalendarDays(60)));
+    let mut c = adding_for(w, 991201, Some(CalendarDays(60)));
     c.generation = 9;
     answer(
         b"add, length 60 and generation 9, 0",

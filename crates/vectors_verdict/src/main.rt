@@ -157,20 +157,20 @@ fn digit(b: u8) -> u32 {
     (b - b'0') as u32
 }
 
-fn once_of(mark: u8) -> changeover::Key {
+fn once_of(mark: u8) -> Option<u64> {
     match mark {
-        b'U' => changeover::Key::Is(WORKING),
-        b'P' => changeover::Key::Is(0),
-        b'M' => changeover::Key::Missing,
-        _ => changeover::Key::Is(ONCE),
+        b'U' => Some(WORKING),
+        b'P' => Some(0),
+        b'M' => None,
+        _ => Some(ONCE),
     }
 }
 
-fn digest_of(mark: u8) -> digest::Answer {
+fn digest_of(mark: u8) -> Option<u64> {
     if mark == b'N' {
-        return digest::Answer::NoCharacters;
+        return None;
     }
-    digest::Answer::Is(WORKING)
+    Some(WORKING)
 }
 
 fn esi_case(t: &[u8], line: &[u8], marks: [u8; 6]) {
@@ -228,7 +228,7 @@ fn each(t: &[u8], lines: &[u8]) {
 }
 
 fn customer_of(who: [u8; 25], agreed: bool, count: u32, stamp: u64) -> customer::Customer {
-    let none = customer::Previous::Nothing;
+    let none = None;
     let transport = customer::KeyPair {
         generation: 1,
         key: TRANSPORT,

@@ -1,5 +1,6 @@
 -- What the functions answer, from what the calls in them say: each is the definition with its parts replaced by their equals.
 -- Assumes nothing.
+use Rattle.std.specs.Prelude.{None, Option}
 use mathlib.Core.Path.{◌≡◌, refl, ap, ap₂, ◌∙◌}
 use mathlib.Core.Bool.{Bool}
 use mathlib.Core.List.{List}
@@ -8,7 +9,6 @@ use Rattle.ground.specs.Choice.{pick}
 use Rattle.keys.specs.Maker.{clock_value}
 use Rattle.customer.specs.declared.Customer.{Customer}
 use Rattle.customer.specs.declared.Settings.{Settings}
-use Rattle.changeover.specs.declared.Key.TheVariants.{Missing}
 use Rattle.acceptance.specs.Grants.{granted_by}
 use Rattle.acceptance.specs.Stamps.{with_stamp}
 use Rattle.acceptance.specs.declared.Granted.{Granted}
@@ -16,7 +16,6 @@ use Rattle.table.specs.Table.{Table, place_of}
 use Rattle.table.specs.Named.{named}
 use Rattle.table.specs.Decode.{table_of}
 use Rattle.table.specs.Stored.{seed_stored}
-use Rattle.table.specs.declared.Found.{Found}
 use Rattle.message.specs.Fields.{sender_of, stamp_of, working_generation_of, request_of}
 use Rattle.message.specs.declared.About.{About}
 use Rattle.message.specs.declared.About.TheVariants.{Answered}
@@ -40,7 +39,7 @@ pub granted_as : (t : Table) (o : Occasion) (m closing : List ℕ) (c : Customer
 unfolding grant_to
 granted_as t o m closing c s clock g q r a b d e f h = h ∙ rw (a, b, d, e, f)
 
-pub stored_after : (b : List ℕ) (o : Occasion) (m closing : List ℕ) (once : ℕ) (g : Granted) (c : Customer) (f : Found) (b₁ b₂ : List ℕ)
+pub stored_after : (b : List ℕ) (o : Occasion) (m closing : List ℕ) (once : ℕ) (g : Granted) (c : Customer) (f : Option ℕ) (b₁ b₂ : List ℕ)
     → g ≡ grant_to (table_of b) o m closing → c ≡ with_stamp (table_of b).holidays o.today g.customer (stamp_of m) once
     → f ≡ place_of (table_of b) (sender_of m) → b₁ ≡ stored_at b f c → b₂ ≡ seed_stored b₁ g.seed
     → b₂ ≡ bytes_after b o m closing once
@@ -55,7 +54,7 @@ unfolding outcome_of clock_value
 accepted_outcome f g made k e q = rw (q, e)
 
 pub refused_outcome : (f : Fault) (code field : ℕ) (about : About) (g : Granted) (made : ℕ) → f ≡ FaultFound code field about
-    → ◌≡◌ {A = Outcome} (record { code = code; field = field; about = about; enclosed = Missing; made = made }) (outcome_of f g made)
+    → ◌≡◌ {A = Outcome} (record { code = code; field = field; about = about; enclosed = None; made = made }) (outcome_of f g made)
 unfolding outcome_of
 refused_outcome f code field about g made e = rw e
 

@@ -1,5 +1,6 @@
 -- What a verdict means: with E nothing changes; with K the sender's record holds the new stamp, and all that it must keep stays.
 -- Assumes nothing.
+use Rattle.std.specs.Prelude.{None, Option, Some}
 use mathlib.Core.Path.{◌≡◌, refl, sym, ap, ap₂, ◌∙◌, subst}
 use mathlib.Core.Bool.{true, false}
 use mathlib.Core.List.{List, ◌++◌}
@@ -18,8 +19,6 @@ use Rattle.acceptance.proofs.Purge.{stamp_new, stamp_kept}
 use Rattle.table.specs.Table.{Table, place_of, customer_in, with_customer, with_seed}
 use Rattle.table.specs.Named.{customer_at, replaced_at, named, with_named}
 use Rattle.table.specs.Decode.{table_of}
-use Rattle.table.specs.declared.Found.{Found}
-use Rattle.table.specs.declared.Found.TheVariants.{At, Unknown}
 use Rattle.table.proofs.Places.{others_stay, stored_is, same_place, found_is, named_at, with_named_at, seed_in, known_at}
 use Rattle.message.specs.Order.{first_failing}
 use Rattle.message.specs.Rules.{form_of, form_checks}
@@ -73,27 +72,27 @@ frame_e_leaves b o f c n a e = bytes_found _ c n a _ _ e
 
 -- ---- the customer who is named
 
-seed_at : (t : Table) (v : ℕ) (f : Found) → customer_at (with_seed t v) f ≡ customer_at t f
+seed_at : (t : Table) (v : ℕ) (f : Option ℕ) → customer_at (with_seed t v) f ≡ customer_at t f
 unfolding customer_at customer_in with_seed
-seed_at t v (At i) = refl
-seed_at t v Unknown = refl
+seed_at t v (Some i) = refl
+seed_at t v None = refl
 
 seed_named : (t : Table) (v : ℕ) (who : List ℕ) → named (with_seed t v) who ≡ named t who
 unfolding named place_of with_seed
 seed_named t v who = seed_at t v (place_of t who)
 
-replaced_others : (t : Table) (f : Found) (c : Customer) (j : ℕ) → (f ≡ At j → ⊥) → customer_in (replaced_at t f c) j ≡ customer_in t j
+replaced_others : (t : Table) (f : Option ℕ) (c : Customer) (j : ℕ) → (f ≡ Some j → ⊥) → customer_in (replaced_at t f c) j ≡ customer_in t j
 unfolding replaced_at
-replaced_others t (At i) c j n = others_stay t i j c (λ q. n (ap At q))
-replaced_others t Unknown c j n = refl
+replaced_others t (Some i) c j n = others_stay t i j c (λ q. n (ap Some q))
+replaced_others t None c j n = refl
 
-named_others : (t : Table) (who : List ℕ) (c : Customer) (j : ℕ) → (place_of t who ≡ At j → ⊥) → customer_in (with_named t who c) j
+named_others : (t : Table) (who : List ℕ) (c : Customer) (j : ℕ) → (place_of t who ≡ Some j → ⊥) → customer_in (with_named t who c) j
     ≡ customer_in t j
 unfolding with_named
 named_others t who c j n = replaced_others t (place_of t who) c j n
 
 -- another record with the same name, and another seed
-module _ (t : Table) (who : List ℕ) (i : ℕ) (e : place_of t who ≡ At i) (c : Customer) (w : c.who ≡ (named t who).who) (v : ℕ) where
+module _ (t : Table) (who : List ℕ) (i : ℕ) (e : place_of t who ≡ Some i) (c : Customer) (w : c.who ≡ (named t who).who) (v : ℕ) where
   pub who_is : c.who ≡ (customer_in t i).who
   who_is = w ∙ ap (λ (d : Customer). d.who) (named_at t who i e)
 
@@ -109,11 +108,11 @@ module _ (t : Table) (who : List ℕ) (i : ℕ) (e : place_of t who ≡ At i) (c
 -- the sender is in the table, there is room for a stamp, and the stamp is real
 pub record Accepted (t : Table) (today : Date) (m : List ℕ) : Type 0 where
   pub place : ℕ
-  pub known : place_of t (sender_of m) ≡ At place
+  pub known : place_of t (sender_of m) ≡ Some place
   pub room : length (live_stamps t.holidays today (named t (sender_of m))) < 64
   pub real : length m ≡ 161 → real_stamp (stamp_of m) ≡ true
 
-party_known : (t : Table) (m : List ℕ) → NoneFails (party_checks t m) → (i : ℕ) × (place_of t (sender_of m) ≡ At i)
+party_known : (t : Table) (m : List ℕ) → NoneFails (party_checks t m) → (i : ℕ) × (place_of t (sender_of m) ≡ Some i)
 unfolding party_checks
 party_known t m n = known_at (place_of t (sender_of m)) n.1.1.0
 
@@ -228,7 +227,7 @@ module _ (t : Table) (o : Occasion) (m closing : List ℕ) (once : ℕ) where
         subst (λ (c : Customer). Kept (named t (sender_of m)) c) (sym after_is)
         (stamp_keeps t.holidays o.today _ _ (stamp_of m) once (grant_kept _ _ _ _ _ _))
 
-  after_others : (j : ℕ) → (place_of t (sender_of m) ≡ At j → ⊥) → customer_in (table_after t o m closing once) j ≡ customer_in t j
+  after_others : (j : ℕ) → (place_of t (sender_of m) ≡ Some j → ⊥) → customer_in (table_after t o m closing once) j ≡ customer_in t j
   unfolding table_after
   after_others j n = seed_in _ _ j ∙ named_others t (sender_of m) _ j n
 
@@ -295,24 +294,24 @@ unfolding table_by
 by_others Sound t u j e = e
 by_others (FaultFound c n a) t u j e = refl
 
-pub esi_others : (t : Table) (o : Occasion) (m : Collected) (j : ℕ) → (place_of t (sender_of m.text) ≡ At j → ⊥)
+pub esi_others : (t : Table) (o : Occasion) (m : Collected) (j : ℕ) → (place_of t (sender_of m.text) ≡ Some j → ⊥)
     → customer_in (esi_table t o m) j ≡ customer_in t j
 unfolding esi_table
 esi_others t o m j n = by_others _ t _ j (after_others t o m.text m.text 0 j n)
 
-pub frame_others : (t : Table) (o : Occasion) (f : Frame) (j : ℕ) → (place_of t (sender_of f.suo.text) ≡ At j → ⊥)
+pub frame_others : (t : Table) (o : Occasion) (f : Frame) (j : ℕ) → (place_of t (sender_of f.suo.text) ≡ Some j → ⊥)
     → customer_in (frame_table t o f) j ≡ customer_in t j
 unfolding frame_table
 frame_others t o f j n = by_others _ t _ j (after_others t o f.suo.text f.var.text (key_or0 f.once) j n)
 
 -- ---- what an accepted message leaves as it was
 
-replaced_day : (t : Table) (f : Found) (c : Customer)
+replaced_day : (t : Table) (f : Option ℕ) (c : Customer)
     → ((replaced_at t f c).day ≡ t.day) × ((replaced_at t f c).settings ≡ t.settings) × ((replaced_at t f c).holidays ≡ t.holidays)
     × (length (replaced_at t f c).customers ≡ length t.customers)
 unfolding replaced_at with_customer
-replaced_day t (At i) c = (refl, refl, refl, length-set t.customers i c)
-replaced_day t Unknown c = (refl, refl, refl, refl)
+replaced_day t (Some i) c = (refl, refl, refl, length-set t.customers i c)
+replaced_day t None c = (refl, refl, refl, refl)
 
 pub named_stays : (t : Table) (who : List ℕ) (c : Customer)
     → ((with_named t who c).day ≡ t.day) × ((with_named t who c).settings ≡ t.settings) × ((with_named t who c).holidays ≡ t.holidays)

@@ -1,5 +1,6 @@
 -- What a verdict leaves in the bytes that a table is written as: the table afterwards, which is sound.
 -- Assumes nothing.
+use Rattle.std.specs.Prelude.{Option}
 use mathlib.Core.Path.{◌≡◌, refl, sym, ap, ◌∙◌}
 use mathlib.Core.Bool.{Bool, true, false}
 use mathlib.Core.List.{List, [], ◌∷◌, ◌++◌}
@@ -23,7 +24,6 @@ use Rattle.table.specs.Named.{named}
 use Rattle.table.specs.Written.{encode, written}
 use Rattle.table.specs.Decode.{table_of, is_table}
 use Rattle.table.specs.Stored.{seed_stored}
-use Rattle.table.specs.declared.Found.{Found}
 use Rattle.table.proofs.Places.{found_is, named_at, with_named_at}
 use Rattle.table.proofs.Sound.{parts, sound_with, sound_seed}
 use Rattle.table.proofs.Encode.{encode-length, sound_fit}
@@ -146,7 +146,7 @@ module _ (b : List ℕ) (e : is_table b ≡ true) (o : Occasion) (m closing : Li
   record_stored : stored_at b (place_of (table_of b) (sender_of m)) (record_after (table_of b) o m closing once) ≡ written b stored
   unfolding stored_at
   record_stored =
-      ap (λ (f : Found). stored_at b f (record_after (table_of b) o m closing once)) a.known
+      ap (λ (f : Option ℕ). stored_at b f (record_after (table_of b) o m closing once)) a.known
       ∙ store_is b e a.place (record_after (table_of b) o m closing once) within record_fits
 
   after_bytes : bytes_after b o m closing once ≡ written b (table_after (table_of b) o m closing once)

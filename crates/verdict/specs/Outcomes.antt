@@ -1,9 +1,8 @@
 -- What a verdict answers and leaves: with E nothing changes; with K the stamp is marked used, and keys go as the request says.
 -- Assumes nothing.
-use Rattle.std.specs.Prelude.{ℕ, ◌+◌, ◌%◌, ◌^◌, Bool, true, false, List}
+use Rattle.std.specs.Prelude.{ℕ, ◌+◌, ◌%◌, ◌^◌, Bool, true, false, List, None, Option, Some}
 use Rattle.keys.specs.Maker.{clock_value}
 use Rattle.customer.specs.declared.Customer.{Customer}
-use Rattle.changeover.specs.declared.Key.TheVariants.{Missing}
 use Rattle.acceptance.specs.Stamps.{with_stamp}
 use Rattle.acceptance.specs.Grants.{granted_by}
 use Rattle.acceptance.specs.declared.Granted.{Granted}
@@ -11,8 +10,6 @@ use Rattle.table.specs.Table.{Table, place_of, with_seed}
 use Rattle.table.specs.Named.{named, with_named}
 use Rattle.table.specs.Decode.{table_of}
 use Rattle.table.specs.Stored.{customer_stored, seed_stored}
-use Rattle.table.specs.declared.Found.{Found}
-use Rattle.table.specs.declared.Found.TheVariants.{At, Unknown}
 use Rattle.message.specs.Layout.{no_field}
 use Rattle.message.specs.Fields.{sender_of, stamp_of, working_generation_of, request_of}
 use Rattle.message.specs.declared.Fault.{Fault}
@@ -50,7 +47,7 @@ unfoldable pub outcome_of : Fault → Granted → (made : ℕ) → Outcome
 outcome_of Sound g made =
     record { code = g.code; field = no_field; about = Answered; enclosed = g.enclosed; made = (made + g.made) % 2 ^ 64 }
 outcome_of (FaultFound code field about) g made =
-    record { code = code; field = field; about = about; enclosed = Missing; made = made }
+    record { code = code; field = field; about = about; enclosed = None; made = made }
 
 -- no check failed
 unfoldable pub is_sound : Fault → Bool
@@ -83,9 +80,9 @@ frame_table t o f =
 
 -- ---- the same over lent bytes, for any bytes: on a table, what the laws of proofs/ say
 
-unfoldable pub stored_at : List ℕ → Found → Customer → List ℕ
-stored_at b (At i) c = customer_stored b i c
-stored_at b Unknown c = b
+unfoldable pub stored_at : List ℕ → Option ℕ → Customer → List ℕ
+stored_at b (Some i) c = customer_stored b i c
+stored_at b None c = b
 
 unfoldable pub bytes_after : (b : List ℕ) → Occasion → (m closing : List ℕ) (once : ℕ) → List ℕ
 bytes_after b o m closing once =

@@ -16,7 +16,7 @@ pub struct Outcome {
     pub code: u32,
     pub field: u32,
     pub about: message::About,
-    pub enclosed: changeover::Key,
+    pub enclosed: Option<u64>,
     pub made: u64,
 }
 
@@ -57,12 +57,12 @@ fn marked(
 }
 
 // Another record for the customer at a place, if there is one.
-fn store_record(t: &mut [u8], place: table::Found, c: customer::Customer)
+fn store_record(t: &mut [u8], place: Option<usize>, c: customer::Customer)
     ensures { t.new ≡ stored_at t.old place c }
 {
     match place {
-        table::Found::At(i) => table::store(t, i, c),
-        table::Found::Unknown => {}
+        Some(i) => table::store(t, i, c),
+        None => {}
     }
 }
 
@@ -120,7 +120,7 @@ fn answer_by(fault: message::Fault, g: acceptance::Granted, made: u64) -> Outcom
             code,
             field,
             about,
-            enclosed: changeover::Key::Missing,
+            enclosed: None,
             made,
         },
     }

@@ -1,6 +1,6 @@
 -- How records make a message (document 01, 'Reading the file'; document 02, R-2).
 -- Assumes nothing.
-use Rattle.std.specs.Prelude.{ℕ, min, Bool, true, false, List, ◌++◌, ltb, length, take, drop, replicate}
+use Rattle.std.specs.Prelude.{ℕ, min, Bool, true, false, List, ◌++◌, ltb, length, take, drop, replicate, None, Option, Some}
 use Prim.Native.String.{String}
 use Rattle.ground.specs.Choice.{fails, pick, between}
 use Rattle.ground.specs.Lists.{all, same}
@@ -8,12 +8,8 @@ use Rattle.text.specs.Characters.{digit, all_blank}
 use Rattle.text.specs.Numbers.{decimal}
 use Rattle.text.specs.Letters.{letters}
 use Rattle.des.specs.Des.{deciphered}
-use Rattle.changeover.specs.declared.Key.{Key}
-use Rattle.changeover.specs.declared.Key.TheVariants.{Missing, Is}
 use Rattle.changeover.specs.Held.{held_key}
 use Rattle.table.specs.Table.{Table, place_of, customer_in}
-use Rattle.table.specs.declared.Found.{Found}
-use Rattle.table.specs.declared.Found.TheVariants.{At, Unknown}
 use Rattle.message.specs.Layout.{field, field_text, layout_length}
 use Rattle.message.specs.Fields.{sender_of, transport_generation_of, once_field_of}
 use Rattle.message.specs.Order.{first_failing}
@@ -85,19 +81,19 @@ collected_as kind extent chars =
 -- ---- the one-time key
 
 -- field 15 deciphered under a transport key, if there is one
-unfoldable pub one_time : Key → List ℕ → Key
-one_time Missing suo = Missing
-one_time (Is transport) suo = Is (deciphered transport (once_field_of suo))
+unfoldable pub one_time : Option ℕ → List ℕ → Option ℕ
+one_time None suo = None
+one_time (Some transport) suo = Some (deciphered transport (once_field_of suo))
 
 -- the transport key of the generation that a SUO names, if its sender is there and holds it
-unfoldable pub transport_held : Table → Found → List ℕ → Key
-transport_held t (At i) suo = held_key (customer_in t i).transport (transport_generation_of suo)
-transport_held t Unknown suo = Missing
+unfoldable pub transport_held : Table → Option ℕ → List ℕ → Option ℕ
+transport_held t (Some i) suo = held_key (customer_in t i).transport (transport_generation_of suo)
+transport_held t None suo = None
 
 -- at the SUO's end: under the transport key generation it names, if it is held then
-unfoldable pub one_time_of : Table → List ℕ → Key
+unfoldable pub one_time_of : Table → List ℕ → Option ℕ
 one_time_of t suo = one_time (transport_held t (place_of t (sender_of suo)) suo) suo
 
 -- a faulty SUO carries none
-unfoldable pub once_of : Table → Collected → Key
-once_of t m = pick (is_sound (first_failing (form_checks (form_of Suo) Answered m))) (one_time_of t m.text) Missing
+unfoldable pub once_of : Table → Collected → Option ℕ
+once_of t m = pick (is_sound (first_failing (form_checks (form_of Suo) Answered m))) (one_time_of t m.text) None

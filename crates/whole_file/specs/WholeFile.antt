@@ -1,11 +1,10 @@
 -- Demand 2's whole-file answer: the replies to an uncut file, each with the place of the record that settles it, and the table afterwards
 -- (document 01, 'Reading the file'). It knows no session, read or taken count.
 -- Assumes nothing.
-use Rattle.std.specs.Prelude.{ℕ, Bool, true, false, List, [], ◌∷◌, ◌++◌, length, replicate}
+use Rattle.std.specs.Prelude.{ℕ, Bool, true, false, List, [], ◌∷◌, ◌++◌, length, replicate, Option}
 use Rattle.ground.specs.Choice.{pick}
 use Rattle.des.specs.Des.{enciphered}
 use Rattle.digest.specs.Kept.{digest_of}
-use Rattle.changeover.specs.declared.Key.{Key}
 use Rattle.table.specs.Table.{Table}
 use Rattle.message.specs.Layout.{field, no_field}
 use Rattle.message.specs.Fields.{sender_of, method_of}
@@ -30,7 +29,7 @@ use Rattle.whole_file.specs.Messages.{begins, extent_of, is_whole, wants_more, c
 -- an open frame: its SUO, the one-time key deciphered at the SUO's end, and its data records so far
 pub record Opened : Type 0 where
   pub suo : Collected
-  pub once : Key
+  pub once : Option ℕ
   pub records : List (List ℕ)
 
 -- where the reading stands: before the ESI; collecting a message, with its characters so far;

@@ -1,9 +1,9 @@
 -- Each answer is the one that the tests before it lead to.
+use Rattle.std.specs.Prelude.{None}
 use mathlib.Core.Path.{refl, sym, ap, ◌∙◌}
 use borrow.Author.Tests.{eq-eqb, ne_eqb}
 use Rattle.ground.proofs.Bools.{unsaid}
 use Rattle.customer.specs.declared.Customer.{Customer}
-use Rattle.changeover.specs.declared.Key.TheVariants.{Missing}
 use Rattle.acceptance.specs.Steps.{granted, under_current}
 use Rattle.acceptance.proofs.Grants.{here, there}
 use Rattle.acceptance.proofs.under_current.Goals as goal
@@ -41,7 +41,7 @@ returns-then-busy-2 c =
     (there _ _ _ _ (ne_eqb _ _ c.if-request-eq1.false)
     (here _ _ _ _ (sym c.is_changing-busy.ensures ∙ c.if-busy-2.true)
     (c.without_key-then-busy-2.ensures
-    ∙ ap (λ (d : Customer). granted 1036 d Missing 0 c.args.maker.seed)
+    ∙ ap (λ (d : Customer). granted 1036 d None 0 c.args.maker.seed)
     c.without_previous-dropped.ensures)))
 
 pub returns : goal.returns

@@ -2,10 +2,10 @@
 use Rattle.build.specs.Building.{digest_number}
 use Rattle.build.proofs.digest_number.Goals as goal
 
-pub returns-in-NoCharacters : goal.returns-in-NoCharacters
+pub returns-in-None : goal.returns-in-None
 unfolding digest_number
-returns-in-NoCharacters c = rw c.in-NoCharacters.is
+returns-in-None c = rw c.in-None.is
 
-pub returns-in-Is : goal.returns-in-Is
+pub returns-in-Some : goal.returns-in-Some
 unfolding digest_number
-returns-in-Is c = rw c.in-Is.is
+returns-in-Some c = rw c.in-Some.is

@@ -3,10 +3,10 @@ use Rattle.changeover.specs.Held.{changing}
 use Rattle.ground.proofs.Bools.{turned}
 use Rattle.changeover.proofs.is_changing.Goals as goal
 
-pub returns-in-Nothing : goal.returns-in-Nothing
+pub returns-in-None : goal.returns-in-None
 unfolding changing
-returns-in-Nothing c = rw c.in-Nothing.is
+returns-in-None c = rw c.in-None.is
 
-pub returns-in-Held : goal.returns-in-Held
+pub returns-in-Some : goal.returns-in-Some
 unfolding changing
-returns-in-Held c = rw c.in-Held.is (turned c.before-in-Held.ensures)
+returns-in-Some c = rw c.in-Some.is (turned c.before-in-Some.ensures)

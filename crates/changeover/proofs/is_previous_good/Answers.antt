@@ -2,9 +2,9 @@
 use Rattle.changeover.specs.Held.{previous_good}
 use Rattle.changeover.proofs.is_previous_good.Goals as goal
 
-pub returns-in-Nothing : goal.returns-in-Nothing
+pub returns-in-None : goal.returns-in-None
 unfolding previous_good
-returns-in-Nothing c = rw c.in-Nothing.is
+returns-in-None c = rw c.in-None.is
 
-pub returns-in-Held : goal.returns-in-Held
-returns-in-Held c = rw c.in-Held.is c.is_up_to_last.ensures
+pub returns-in-Some : goal.returns-in-Some
+returns-in-Some c = rw c.in-Some.is c.is_up_to_last.ensures

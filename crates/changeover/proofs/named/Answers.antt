@@ -7,12 +7,12 @@ use Rattle.changeover.proofs.named.Goals as goal
 
 pub returns-then-c-generation : goal.returns-then-c-generation
 unfolding previous_named
-returns-then-c-generation c = rw c.in-Held.is (sym (picks _ _ _ (eq-eqb _ _ c.if-c-generation.true)))
+returns-then-c-generation c = rw c.in-Some.is (sym (picks _ _ _ (eq-eqb _ _ c.if-c-generation.true)))
 
-pub returns-in-Nothing : goal.returns-in-Nothing
+pub returns-in-None : goal.returns-in-None
 unfolding previous_named
-returns-in-Nothing c = rw c.in-Nothing.is
+returns-in-None c = rw c.in-None.is
 
 pub returns-else-c-generation : goal.returns-else-c-generation
 unfolding previous_named
-returns-else-c-generation c = rw c.in-Held.is (sym (skips _ _ _ (ne_eqb _ _ c.if-c-generation.false)))
+returns-else-c-generation c = rw c.in-Some.is (sym (skips _ _ _ (ne_eqb _ _ c.if-c-generation.false)))

@@ -5,11 +5,11 @@ use Rattle.checks.specs.Checks.{checksum_differs}
 use Rattle.ground.proofs.Bools.{turned}
 use Rattle.checks.proofs.checksum_differs.Goals as goal
 
-pub returns-in-Missing : goal.returns-in-Missing
+pub returns-in-None : goal.returns-in-None
 unfolding checksum_differs
-returns-in-Missing c = rw c.in-Missing.is
+returns-in-None c = rw c.in-None.is
 
-pub returns-in-Is : goal.returns-in-Is
+pub returns-in-Some : goal.returns-in-Some
 unfolding checksum_differs
-returns-in-Is c =
-    rw c.in-Is.is (turned (ap₂ eqb c.checksum.ensures c.checksum_field.ensures))
+returns-in-Some c =
+    rw c.in-Some.is (turned (ap₂ eqb c.checksum.ensures c.checksum_field.ensures))

@@ -4,10 +4,10 @@ use Rattle.checks.specs.Checks.{digest_differs}
 use Rattle.ground.proofs.Bools.{turned}
 use Rattle.checks.proofs.digest_differs.Goals as goal
 
-pub returns-in-NoCharacters : goal.returns-in-NoCharacters
+pub returns-in-None : goal.returns-in-None
 unfolding digest_differs
-returns-in-NoCharacters c = rw c.in-NoCharacters.is
+returns-in-None c = rw c.in-None.is
 
-pub returns-in-Is : goal.returns-in-Is
+pub returns-in-Some : goal.returns-in-Some
 unfolding digest_differs
-returns-in-Is c = rw c.in-Is.is (turned refl)
+returns-in-Some c = rw c.in-Some.is (turned refl)

@@ -1,7 +1,7 @@
 -- The checks are made in their order.
+use Rattle.std.specs.Prelude.{Option}
 use mathlib.Core.Path.{ap, ap₂, ◌∙◌}
 use Rattle.changeover.specs.Held.{held_key, good_for}
-use Rattle.changeover.specs.declared.Key.{Key}
 use Rattle.checks.specs.Checks.{checksum_differs, esi_key_checks}
 use Rattle.checks.proofs.Order.{one, next}
 use Rattle.ground.proofs.Bools.{turned}
@@ -19,4 +19,4 @@ returns c =
     (next _ _ _ _ c.or_else.ensures c.fault_if-no_working.ensures
     (turned (c.is_good_for.ensures ∙ ap₂ (good_for a.c.working) g d))
     (one _ _ _ c.fault_if-checksum.ensures (c.checksum_differs.ensures
-    ∙ ap (λ (k : Key). checksum_differs k a.m) (c.held-key.ensures ∙ ap (held_key a.c.working) g))))
+    ∙ ap (λ (k : Option ℕ). checksum_differs k a.m) (c.held-key.ensures ∙ ap (held_key a.c.working) g))))

@@ -4,10 +4,10 @@ use Rattle.ground.proofs.Bools.{turned}
 use Rattle.checks.specs.Checks.{is_missing}
 use Rattle.checks.proofs.is_key_refused.Goals as goal
 
-pub returns-in-Missing : goal.returns-in-Missing
+pub returns-in-None : goal.returns-in-None
 unfolding is_missing either
-returns-in-Missing c = rw c.in-Missing.is
+returns-in-None c = rw c.in-None.is
 
-pub returns-in-Is : goal.returns-in-Is
+pub returns-in-Some : goal.returns-in-Some
 unfolding is_missing either
-returns-in-Is c = rw c.in-Is.is (turned c.is_good_for.ensures)
+returns-in-Some c = rw c.in-Some.is (turned c.is_good_for.ensures)

@@ -2,10 +2,10 @@
 use Rattle.table.specs.Table.{is_unknown}
 use Rattle.checks.proofs.is_no_place.Goals as goal
 
-pub returns-in-At : goal.returns-in-At
+pub returns-in-Some : goal.returns-in-Some
 unfolding is_unknown
-returns-in-At c = rw c.in-At.is
+returns-in-Some c = rw c.in-Some.is
 
-pub returns-in-Unknown : goal.returns-in-Unknown
+pub returns-in-None : goal.returns-in-None
 unfolding is_unknown
-returns-in-Unknown c = rw c.in-Unknown.is
+returns-in-None c = rw c.in-None.is

@@ -1,4 +1,5 @@
 -- The checks are made in their order.
+use Rattle.std.specs.Prelude.{Option}
 use mathlib.Core.Path.{sym, ap, ap₂, ◌∙◌}
 use Prim.Native.Nat.{ℕ}
 use mathlib.Core.List.{List}
@@ -7,7 +8,6 @@ use Rattle.ground.proofs.Bools.{turned}
 use Rattle.calendar.specs.declared.Date.{Date}
 use Rattle.keys.specs.Parity.{odd_parity}
 use Rattle.changeover.specs.Held.{held_key, good_for}
-use Rattle.changeover.specs.declared.Key.{Key}
 use Rattle.acceptance.specs.Stamps.{once_used}
 use Rattle.checks.specs.Checks.{is_missing, checksum_differs, digest_differs, key_checks}
 use Rattle.checks.proofs.Order.{one, next}
@@ -33,4 +33,4 @@ returns c =
     (next _ _ _ _ c.or_else.ensures c.fault_if-digest.ensures (c.digest_differs.ensures
     ∙ ap (digest_differs a.f.digest) c.digest_field.ensures)
     (one _ _ _ c.fault_if-checksum.ensures (c.checksum_differs.ensures
-    ∙ ap (λ (k : Key). checksum_differs k a.f.var.text) (c.held-key.ensures ∙ ap (held_key a.c.working) g)))))))
+    ∙ ap (λ (k : Option ℕ). checksum_differs k a.f.var.text) (c.held-key.ensures ∙ ap (held_key a.c.working) g)))))))

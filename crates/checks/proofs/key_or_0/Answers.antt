@@ -2,10 +2,10 @@
 use Rattle.checks.specs.Checks.{key_or0}
 use Rattle.checks.proofs.key_or_0.Goals as goal
 
-pub returns-in-Missing : goal.returns-in-Missing
+pub returns-in-None : goal.returns-in-None
 unfolding key_or0
-returns-in-Missing c = rw c.in-Missing.is
+returns-in-None c = rw c.in-None.is
 
-pub returns-in-Is : goal.returns-in-Is
+pub returns-in-Some : goal.returns-in-Some
 unfolding key_or0
-returns-in-Is c = rw c.in-Is.is
+returns-in-Some c = rw c.in-Some.is

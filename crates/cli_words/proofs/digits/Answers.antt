@@ -1,5 +1,5 @@
 -- Each test is one of the form, and the number is read where all hold.
-use Rattle.cli_words.specs.declared.Number.TheVariants.{Is}
+use Rattle.std.specs.Prelude.{Some}
 use mathlib.Core.Path.{sym, ap, ◌∙◌}
 use borrow.Author.Tests.{not-true, not-false, lt-ltb, le-ltb}
 use Rattle.ground.proofs.Choices.{picks, skips, join, fails_left, fails_right, between_below, between_above, between_in}
@@ -25,7 +25,7 @@ returns-then-n-ge4294967296 c = sym (skips _ _ _ (fails_right _ _ (fails_right _
 pub returns : goal.returns
 unfolding number_of
 returns c =
-    ap Is c.number-n.ensures
+    ap Some c.number-n.ensures
     ∙ sym (picks _ _ _
     (join _ _ (between_in _ _ _ c.if-s-low.false c.if-high-s.false)
     (join _ _ (sym c.all_digits.ensures ∙ not-false _ c.if-not-all_digits.false-raw)

@@ -1,5 +1,5 @@
 -- Each test is one of the form, and the number is read where both hold.
-use Rattle.cli_words.specs.declared.Block.TheVariants.{Of}
+use Rattle.std.specs.Prelude.{Some}
 use mathlib.Core.Path.{sym, ap, ◌∙◌}
 use borrow.Author.Tests.{not-true, not-false, eq-eqb, ne_eqb}
 use Rattle.ground.proofs.Choices.{picks, skips, join, fails_left, fails_right}
@@ -17,6 +17,6 @@ returns-then-not-all_hex_digits c = sym (skips _ _ _ (fails_right _ _ (sym c.all
 pub returns : goal.returns
 unfolding block_of
 returns c =
-    ap Of c.hex_number.ensures
+    ap Some c.hex_number.ensures
     ∙ sym (picks _ _ _ (join _ _ (eq-eqb _ _ c.if-s-width.false) (sym c.all_hex_digits.ensures
     ∙ not-false _ c.if-not-all_hex_digits.false-raw)))

@@ -36,7 +36,7 @@ loop-at-preserved c =
       one_more _ _ _ _ _ h
           (looked _ _ c.args.s.now c.loop-at.at c.part_end-end.result c.loop-at.count _
           c.loop-at-test.true h c.part_end-end.ensures
-          (sym c.in-Is.is ∙ c.date_in-date.ensures) c.loop-at.invariant.1),
+          (sym c.in-Some.is ∙ c.date_in-date.ensures) c.loop-at.invariant.1),
     )
 
 pub returns : goal.returns

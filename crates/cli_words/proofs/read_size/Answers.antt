@@ -7,12 +7,12 @@ pub returns-in_default : goal.returns-in_default
 returns-in_default c = no_number _ (sym c.digits.ensures ∙ c.in_default.is)
 
 pub returns-then-n-lt1 : goal.returns-then-n-lt1
-returns-then-n-lt1 c = too_low _ _ (sym c.digits.ensures ∙ c.in-Is.is) c.if-n-lt1.true
+returns-then-n-lt1 c = too_low _ _ (sym c.digits.ensures ∙ c.in-Some.is) c.if-n-lt1.true
 
 pub returns-then-n-gt65536 : goal.returns-then-n-gt65536
 returns-then-n-gt65536 c =
-    too_high _ _ (sym c.digits.ensures ∙ c.in-Is.is) c.if-n-gt65536.true
+    too_high _ _ (sym c.digits.ensures ∙ c.in-Some.is) c.if-n-gt65536.true
 
 pub returns : goal.returns
 returns c =
-    within _ _ (sym c.digits.ensures ∙ c.in-Is.is) c.if-n-lt1.false c.if-n-gt65536.false
+    within _ _ (sym c.digits.ensures ∙ c.in-Some.is) c.if-n-lt1.false c.if-n-gt65536.false

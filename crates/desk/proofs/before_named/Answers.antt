@@ -7,12 +7,12 @@ use Rattle.desk.proofs.before_named.Goals as goal
 
 pub returns-then-k-generation : goal.returns-then-k-generation
 unfolding before_named
-returns-then-k-generation c = rw c.in-Was.is (sym (picks _ _ _ (eq-eqb _ _ c.if-k-generation.true)))
+returns-then-k-generation c = rw c.in-Some.is (sym (picks _ _ _ (eq-eqb _ _ c.if-k-generation.true)))
 
-pub returns-in-Nothing : goal.returns-in-Nothing
+pub returns-in-None : goal.returns-in-None
 unfolding before_named
-returns-in-Nothing c = rw c.in-Nothing.is
+returns-in-None c = rw c.in-None.is
 
 pub returns-else-k-generation : goal.returns-else-k-generation
 unfolding before_named
-returns-else-k-generation c = rw c.in-Was.is (sym (skips _ _ _ (ne_eqb _ _ c.if-k-generation.false)))
+returns-else-k-generation c = rw c.in-Some.is (sym (skips _ _ _ (ne_eqb _ _ c.if-k-generation.false)))

@@ -8,11 +8,11 @@ use Rattle.message.specs.Fields.{checksum_field_of}
 use Rattle.checks.specs.Checks.{checksum_differs}
 use Rattle.desk.proofs.checksum_differs.Goals as goal
 
-pub returns-in-Missing : goal.returns-in-Missing
+pub returns-in-None : goal.returns-in-None
 unfolding checksum_differs
-returns-in-Missing c = rw c.in-Missing.is
+returns-in-None c = rw c.in-None.is
 
-pub returns-in-Is : goal.returns-in-Is
+pub returns-in-Some : goal.returns-in-Some
 unfolding checksum_differs checksum_field_of field_text offset_in width_in pick
-returns-in-Is c =
-    rw c.in-Is.is (turned (ap₂ eqb c.checksum.ensures c.block_at.ensures))
+returns-in-Some c =
+    rw c.in-Some.is (turned (ap₂ eqb c.checksum.ensures c.block_at.ensures))

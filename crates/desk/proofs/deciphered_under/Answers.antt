@@ -1,13 +1,13 @@
 -- No key deciphers nothing.
+use Rattle.std.specs.Prelude.{Some}
 use mathlib.Core.Path.{ap}
-use Rattle.changeover.specs.declared.Key.TheVariants.{Is}
 use Rattle.desk.specs.Desk.{deciphering}
 use Rattle.desk.proofs.deciphered_under.Goals as goal
 
-pub returns-in-Missing : goal.returns-in-Missing
+pub returns-in-None : goal.returns-in-None
 unfolding deciphering
-returns-in-Missing c = rw c.in-Missing.is
+returns-in-None c = rw c.in-None.is
 
-pub returns-in-Is : goal.returns-in-Is
+pub returns-in-Some : goal.returns-in-Some
 unfolding deciphering
-returns-in-Is c = rw c.in-Is.is (ap Is c.decipher.ensures)
+returns-in-Some c = rw c.in-Some.is (ap Some c.decipher.ensures)

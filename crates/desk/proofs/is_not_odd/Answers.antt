@@ -3,10 +3,10 @@ use Rattle.ground.proofs.Bools.{turned}
 use Rattle.desk.specs.Desk.{is_not_odd}
 use Rattle.desk.proofs.is_not_odd.Goals as goal
 
-pub returns-in-Missing : goal.returns-in-Missing
+pub returns-in-None : goal.returns-in-None
 unfolding is_not_odd
-returns-in-Missing c = rw c.in-Missing.is
+returns-in-None c = rw c.in-None.is
 
-pub returns-in-Is : goal.returns-in-Is
+pub returns-in-Some : goal.returns-in-Some
 unfolding is_not_odd
-returns-in-Is c = rw c.in-Is.is (turned c.has_odd_parity.ensures)
+returns-in-Some c = rw c.in-Some.is (turned c.has_odd_parity.ensures)

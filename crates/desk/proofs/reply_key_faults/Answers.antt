@@ -1,9 +1,9 @@
 -- The checks are made in their order.
+use Rattle.std.specs.Prelude.{Option}
 use mathlib.Core.Path.{ap, ◌∙◌}
 use Rattle.ground.specs.Choice.{pick}
 use Rattle.message.specs.Layout.{field_text, offset_in, width_in}
 use Rattle.message.specs.Fields.{working_generation_of}
-use Rattle.changeover.specs.declared.Key.{Key}
 use Rattle.checks.specs.Checks.{checksum_differs}
 use Rattle.checks.proofs.Order.{one}
 use Rattle.desk.specs.Held.{key_named}
@@ -18,5 +18,5 @@ returns c =
     (c.or_else-2.ensures _ _ c.fault_if_other-working.ensures
     (c.or_else.ensures _ _
     (one _ _ _ c.fault_if-checksum.ensures (c.checksum_differs.ensures
-    ∙ ap (λ (k : Key). checksum_differs k c.args.r.now) key))
+    ∙ ap (λ (k : Option ℕ). checksum_differs k c.args.r.now) key))
     (one _ _ _ c.fault_if-parity.ensures c.is_enclosed_even.ensures)))

@@ -14,4 +14,4 @@ pub returns : goal.returns
 unfolding cells widths
 returns c =
     let k = c.args.k in
-    ap (λ b. cells keys_shape (k.generation, (k.key, before_to b))) (sym c.in-Was.is)
+    ap (λ b. cells keys_shape (k.generation, (k.key, before_to b))) (sym c.in-Some.is)

@@ -2,10 +2,10 @@
 use Rattle.whole_file.specs.Messages.{one_time}
 use Rattle.read_messages.proofs.one_time.Goals as goal
 
-pub returns-in-Missing : goal.returns-in-Missing
+pub returns-in-None : goal.returns-in-None
 unfolding one_time
-returns-in-Missing c = rw c.in-Missing.is
+returns-in-None c = rw c.in-None.is
 
-pub returns-in-Is : goal.returns-in-Is
+pub returns-in-Some : goal.returns-in-Some
 unfolding one_time
-returns-in-Is c = rw (c.decipher.ensures, c.once_field.ensures, c.in-Is.is)
+returns-in-Some c = rw (c.decipher.ensures, c.once_field.ensures, c.in-Some.is)

@@ -2,11 +2,11 @@
 use Rattle.whole_file.specs.Messages.{transport_held}
 use Rattle.read_messages.proofs.transport_held.Goals as goal
 
-pub returns-in-At : goal.returns-in-At
+pub returns-in-Some : goal.returns-in-Some
 unfolding transport_held
-returns-in-At c =
-    rw (c.held.ensures, c.transport_generation-named.ensures, c.load-c.ensures, c.in-At.is)
+returns-in-Some c =
+    rw (c.held.ensures, c.transport_generation-named.ensures, c.load-c.ensures, c.in-Some.is)
 
-pub returns-in-Unknown : goal.returns-in-Unknown
+pub returns-in-None : goal.returns-in-None
 unfolding transport_held
-returns-in-Unknown c = rw c.in-Unknown.is
+returns-in-None c = rw c.in-None.is

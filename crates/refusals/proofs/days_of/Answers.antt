@@ -2,10 +2,10 @@
 use Rattle.refusals.specs.Length.{length_of}
 use Rattle.refusals.proofs.days_of.Goals as goal
 
-pub returns-in-Given : goal.returns-in-Given
+pub returns-in-Some : goal.returns-in-Some
 unfolding length_of
-returns-in-Given c = rw c.in-Given.is
+returns-in-Some c = rw c.in-Some.is
 
-pub returns-in-LeftOut : goal.returns-in-LeftOut
+pub returns-in-None : goal.returns-in-None
 unfolding length_of
-returns-in-LeftOut c = rw c.in-LeftOut.is
+returns-in-None c = rw c.in-None.is

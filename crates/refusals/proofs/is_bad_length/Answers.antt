@@ -5,12 +5,12 @@ use Rattle.refusals.proofs.is_bad_length.Goals as goal
 
 pub returns-then-n-lt1 : goal.returns-then-n-lt1
 unfolding bad_length
-returns-then-n-lt1 c = rw c.in-Given.is (too_short _ c.if-n-lt1.true)
+returns-then-n-lt1 c = rw c.in-Some.is (too_short _ c.if-n-lt1.true)
 
 pub returns-else-n-lt1 : goal.returns-else-n-lt1
 unfolding bad_length
-returns-else-n-lt1 c = rw c.in-Given.is (too_long _ c.if-n-lt1.false)
+returns-else-n-lt1 c = rw c.in-Some.is (too_long _ c.if-n-lt1.false)
 
-pub returns-in-LeftOut : goal.returns-in-LeftOut
+pub returns-in-None : goal.returns-in-None
 unfolding bad_length
-returns-in-LeftOut c = rw c.in-LeftOut.is
+returns-in-None c = rw c.in-None.is

@@ -8,10 +8,10 @@ pub returns-then-a : goal.returns-then-a
 unfolding enclosed_key
 returns-then-a c = sym (picks _ _ _ c.if-a.true)
 
-pub returns-in-Missing : goal.returns-in-Missing
+pub returns-in-None : goal.returns-in-None
 unfolding enclosed_key sealed
-returns-in-Missing c = rw (skips _ _ _ c.if-a.false, c.in-Missing.is)
+returns-in-None c = rw (skips _ _ _ c.if-a.false, c.in-None.is)
 
-pub returns-in-Is : goal.returns-in-Is
+pub returns-in-Some : goal.returns-in-Some
 unfolding enclosed_key
-returns-in-Is c = rw (skips _ _ _ c.if-a.false, c.in-Is.is) c.seal.ensures
+returns-in-Some c = rw (skips _ _ _ c.if-a.false, c.in-Some.is) c.seal.ensures

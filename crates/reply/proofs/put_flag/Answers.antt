@@ -5,11 +5,11 @@ use Rattle.reply.specs.Reply.{sealed_flag}
 use Rattle.reply.proofs.Parts.{alike}
 use Rattle.reply.proofs.put_flag.Goals as goal
 
-pub returns-in-Missing : goal.returns-in-Missing
+pub returns-in-None : goal.returns-in-None
 unfolding sealed_flag letters
-returns-in-Missing c = alike (sym (ap sealed_flag c.in-Missing.is)) c.put.ensures
+returns-in-None c = alike (sym (ap sealed_flag c.in-None.is)) c.put.ensures
 
-pub returns-in-Is : goal.returns-in-Is
+pub returns-in-Some : goal.returns-in-Some
 unfolding sealed_flag letters
-returns-in-Is c =
-    alike (sym (ap sealed_flag c.in-Is.is)) c.put-in-Is.ensures
+returns-in-Some c =
+    alike (sym (ap sealed_flag c.in-Some.is)) c.put-in-Some.ensures

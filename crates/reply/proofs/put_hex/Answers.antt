@@ -4,11 +4,11 @@ use Rattle.reply.specs.Reply.{hex_or}
 use Rattle.reply.proofs.Parts.{alike}
 use Rattle.reply.proofs.put_hex.Goals as goal
 
-pub returns-in-Missing : goal.returns-in-Missing
+pub returns-in-None : goal.returns-in-None
 unfolding hex_or
-returns-in-Missing c = alike (sym (ap hex_or c.in-Missing.is)) c.put_blanks.ensures
+returns-in-None c = alike (sym (ap hex_or c.in-None.is)) c.put_blanks.ensures
 
-pub returns-in-Is : goal.returns-in-Is
+pub returns-in-Some : goal.returns-in-Some
 unfolding hex_or
-returns-in-Is c =
-    alike (c.hex_digits-digits.ensures ∙ sym (ap hex_or c.in-Is.is)) c.put.ensures
+returns-in-Some c =
+    alike (c.hex_digits-digits.ensures ∙ sym (ap hex_or c.in-Some.is)) c.put.ensures

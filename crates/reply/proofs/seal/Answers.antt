@@ -1,13 +1,13 @@
 -- The key is enciphered where there is one.
+use Rattle.std.specs.Prelude.{Some}
 use mathlib.Core.Path.{ap}
-use Rattle.changeover.specs.declared.Key.TheVariants.{Is}
 use Rattle.reply.specs.Reply.{sealed}
 use Rattle.reply.proofs.seal.Goals as goal
 
-pub returns-in-Missing : goal.returns-in-Missing
+pub returns-in-None : goal.returns-in-None
 unfolding sealed
-returns-in-Missing c = rw c.in-Missing.is
+returns-in-None c = rw c.in-None.is
 
-pub returns-in-Is : goal.returns-in-Is
+pub returns-in-Some : goal.returns-in-Some
 unfolding sealed
-returns-in-Is c = rw c.in-Is.is (ap Is c.encipher.ensures)
+returns-in-Some c = rw c.in-Some.is (ap Some c.encipher.ensures)

@@ -16,4 +16,4 @@ unfolding cells widths
 returns c =
     let a = c.args.a in
     ap (λ k. cells running_shape (key_to k, (state_to a.running.start, (state_to a.running.solid, state_to a.running.last))))
-    (sym c.in-Is.is)
+    (sym c.in-Some.is)

@@ -19,7 +19,7 @@ returns c =
     let z = sym c.entering_refusal-refused.ensures ∙ c.if-refused-ne0.false in record {
       answers = sym z;
       leaves =
-          entered_is _ c.args.e z _ _ _ _ _ _ (sym c.find.ensures ∙ c.in-At.is) c.load-c.ensures
+          entered_is _ c.args.e z _ _ _ _ _ _ (sym c.find.ensures ∙ c.in-Some.is) c.load-c.ensures
           c.combine-key.ensures c.with_transport-after.ensures
           c.store.ensures c.store_day.ensures;
     }

@@ -53,7 +53,7 @@ past2 c = past1 c.before.before.before ∙ lowest_next _ _ (said c.is_bad_day.en
 past3 : (c : Past-After-known_told) → rest 0 c.before.before.before.before.before.before.before.before.before ≡ rest 3 c.before.before.before.before.before.before.before.before.before
 unfolding entering_refusals no_table
 past3 c =
-    past2 c.before.before.before ∙ lowest_next _ _ (is_there _ _ _ (sym c.find.ensures ∙ c.in-At.is))
+    past2 c.before.before.before ∙ lowest_next _ _ (is_there _ _ _ (sym c.find.ensures ∙ c.in-Some.is))
 
 past4 : (c : Else3) → rest 0 c.before.before.before.before.before.before.before.before.before.before.before ≡ rest 4 c.before.before.before.before.before.before.before.before.before.before.before
 unfolding entering_refusals no_table
@@ -69,7 +69,7 @@ past6 c =
     past5 c.before.before.before.before ∙ lowest_next _ _
     (said (c.is_not_next.ensures
     ∙ ap (λ (d : Customer). not_next d.transport.generation c.args.e.generation)
-    (c.load-c.ensures ∙ sym (named_at _ _ _ (sym c.find.ensures ∙ c.in-At.is)))) c.if-is_not_next.false)
+    (c.load-c.ensures ∙ sym (named_at _ _ _ (sym c.find.ensures ∙ c.in-Some.is)))) c.if-is_not_next.false)
 
 past7 : (c : Else6) → rest 0 c.before.before.before.before.before.before.before.before.before.before.before.before.before.before.before.before.before.before.before ≡ rest 7 c.before.before.before.before.before.before.before.before.before.before.before.before.before.before.before.before.before.before.before
 unfolding entering_refusals no_table
@@ -77,7 +77,7 @@ past7 c =
     past6 c.before.before ∙ lowest_next _ _
     (said (c.is_changing.ensures
     ∙ ap (λ (d : Customer). changing d.transport.previous c.args.e.today)
-    (c.load-c.ensures ∙ sym (named_at _ _ _ (sym c.find.ensures ∙ c.in-At.is)))) c.if-is_changing.false)
+    (c.load-c.ensures ∙ sym (named_at _ _ _ (sym c.find.ensures ∙ c.in-Some.is)))) c.if-is_changing.false)
 
 pub returns-then-not-is_table : goal.returns-then-not-is_table
 unfolding entering_answer entering_refusals no_table
@@ -106,7 +106,7 @@ returns-then-is_not_next c =
     sym (past5 c.before.before.before.before.before ∙ lowest_first _ _
     (said (c.is_not_next.ensures
     ∙ ap (λ (d : Customer). not_next d.transport.generation c.args.e.generation)
-    (c.load-c.ensures ∙ sym (named_at _ _ _ (sym c.find.ensures ∙ c.in-At.is)))) c.if-is_not_next.true))
+    (c.load-c.ensures ∙ sym (named_at _ _ _ (sym c.find.ensures ∙ c.in-Some.is)))) c.if-is_not_next.true))
 
 pub returns-then-is_changing : goal.returns-then-is_changing
 unfolding entering_answer entering_refusals no_table
@@ -114,7 +114,7 @@ returns-then-is_changing c =
     sym (past6 c.before.before.before
     ∙ lowest_first _ _ (said (c.is_changing.ensures
     ∙ ap (λ (d : Customer). changing d.transport.previous c.args.e.today)
-    (c.load-c.ensures ∙ sym (named_at _ _ _ (sym c.find.ensures ∙ c.in-At.is)))) c.if-is_changing.true))
+    (c.load-c.ensures ∙ sym (named_at _ _ _ (sym c.find.ensures ∙ c.in-Some.is)))) c.if-is_changing.true))
 
 pub returns : goal.returns
 unfolding entering_answer entering_refusals no_table

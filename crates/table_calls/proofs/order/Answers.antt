@@ -19,7 +19,7 @@ returns c =
     let z = sym c.ordering_refusal-refused.ensures ∙ c.if-refused-ne0.false in record {
       answers = sym z;
       leaves =
-          ordered_is _ c.args.o z _ _ _ _ _ _ _ _ _ (sym c.find.ensures ∙ c.in-At.is)
+          ordered_is _ c.args.o z _ _ _ _ _ _ _ _ _ (sym c.find.ensures ∙ c.in-Some.is)
           c.load-c.ensures c.settings-settings.ensures c.take_key-key.ensures
           c.with_working-after.ensures
           c.store.ensures c.store_seed.ensures c.store_day.ensures;

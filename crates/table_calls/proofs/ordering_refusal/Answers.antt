@@ -44,7 +44,7 @@ past2 c = past1 c.before.before.before ∙ lowest_next _ _ (said c.is_bad_day.en
 past3 : (c : Past-After-known_told) → rest 0 c.before.before.before.before.before.before.before.before.before ≡ rest 3 c.before.before.before.before.before.before.before.before.before
 unfolding ordering_refusals no_table
 past3 c =
-    past2 c.before.before.before ∙ lowest_next _ _ (is_there _ _ _ (sym c.find.ensures ∙ c.in-At.is))
+    past2 c.before.before.before ∙ lowest_next _ _ (is_there _ _ _ (sym c.find.ensures ∙ c.in-Some.is))
 
 past4 : (c : Else3) → rest 0 c.before.before.before.before.before.before.before.before.before.before.before.before.before ≡ rest 4 c.before.before.before.before.before.before.before.before.before.before.before.before.before
 unfolding ordering_refusals no_table
@@ -52,7 +52,7 @@ past4 c =
     past3 c.before.before.before.before ∙ lowest_next _ _
     (said (c.is_changing.ensures
     ∙ ap (λ (d : Customer). changing d.working.previous c.args.o.today)
-    (c.load-c.ensures ∙ sym (named_at _ _ _ (sym c.find.ensures ∙ c.in-At.is)))) c.if-is_changing.false)
+    (c.load-c.ensures ∙ sym (named_at _ _ _ (sym c.find.ensures ∙ c.in-Some.is)))) c.if-is_changing.false)
 
 pub returns-then-not-is_table : goal.returns-then-not-is_table
 unfolding ordering_answer ordering_refusals no_table
@@ -73,7 +73,7 @@ returns-then-is_changing c =
     sym (past3 c.before.before.before.before.before ∙ lowest_first _ _
     (said (c.is_changing.ensures
     ∙ ap (λ (d : Customer). changing d.working.previous c.args.o.today)
-    (c.load-c.ensures ∙ sym (named_at _ _ _ (sym c.find.ensures ∙ c.in-At.is)))) c.if-is_changing.true))
+    (c.load-c.ensures ∙ sym (named_at _ _ _ (sym c.find.ensures ∙ c.in-Some.is)))) c.if-is_changing.true))
 
 pub returns : goal.returns
 unfolding ordering_answer ordering_refusals no_table

@@ -1,17 +1,17 @@
 -- A place has its record stored, and without one nothing is.
+use Rattle.std.specs.Prelude.{Option}
 use mathlib.Core.Path.{sym, ap, ◌∙◌}
-use Rattle.table.specs.declared.Found.{Found}
 use Rattle.verdict.specs.Outcomes.{stored_at}
 use Rattle.verdict.proofs.store_record.Goals as goal
 
-pub returns-in-At : goal.returns-in-At
+pub returns-in-Some : goal.returns-in-Some
 unfolding stored_at
-returns-in-At c =
+returns-in-Some c =
     let a = c.args in
-    c.store.ensures ∙ sym (ap (λ (f : Found). stored_at a.t.now f a.c) c.in-At.is)
+    c.store.ensures ∙ sym (ap (λ (f : Option ℕ). stored_at a.t.now f a.c) c.in-Some.is)
 
-pub returns-in-Unknown : goal.returns-in-Unknown
+pub returns-in-None : goal.returns-in-None
 unfolding stored_at
-returns-in-Unknown c =
+returns-in-None c =
     let a = c.args in
-    sym (ap (λ (f : Found). stored_at a.t.now f a.c) c.in-Unknown.is)
+    sym (ap (λ (f : Option ℕ). stored_at a.t.now f a.c) c.in-None.is)
