@@ -1,5 +1,6 @@
 -- What a call hands back, by what its parts give: the number of the refusal decides between the message and zeros.
 -- Assumes nothing.
+use Rattle.std.specs.Prelude.{Result}
 use Prim.Native.Nat.{ℕ}
 use mathlib.Core.Path.{◌≡◌, sym, ap, ◌∙◌}
 use mathlib.Core.Bool.{Bool, true, false}
@@ -39,13 +40,13 @@ use Rattle.build.proofs.Known.{known_whole}
 
 -- ---- what the base finds
 
-pub rules_broken : (k : Kind) (known m : List ℕ) {f : Fault} {r : Bool}
+pub rules_broken : (k : Kind) (known m : List ℕ) {f : Result Unit Fault} {r : Bool}
     → f ≡ first_failing (form_checks (form_of k) Answered (record { extent = Whole; blank = true; text = known })) → r ≡ fails (is_sound f)
     → known ≡ known_text k m → r ≡ breaks_rules k m
 unfolding breaks_rules
 rules_broken k known m p q e =
     q
-    ∙ ap (λ (f : Fault). fails (is_sound f)) p
+    ∙ ap (λ (f : Result Unit Fault). fails (is_sound f)) p
     ∙ ap (λ (t : List ℕ). fails (is_sound (first_failing
     (form_checks (form_of k) Answered (record { extent = Whole; blank = true; text = t }))))) e
 

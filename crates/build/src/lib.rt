@@ -190,16 +190,12 @@ fn known_suo(suo: [u8; 128]) -> [u8; 161]
 
 // ---- refusals
 
-fn is_fault(f: message::Fault) -> bool
+fn is_fault(f: Result<(), message::Fault>) -> bool
     ensures { result ≡ fails (is_sound f) }
 {
     match f {
-        message::Fault::Sound => false,
-        message::Fault::Found {
-            code: _,
-            field: _,
-            about: _,
-        } => true,
+        Ok(()) => false,
+        Err(_) => true,
     }
 }
 

@@ -7,7 +7,7 @@ use Rattle.calendar.specs.declared.Date.{Date}
 use Rattle.customer.specs.declared.Customer.{Customer}
 use Rattle.table.specs.Table.{Table}
 use Rattle.table.specs.Named.{named}
-use Rattle.message.specs.Order.{Check}
+use Rattle.message.specs.declared.Check.{Check}
 use Rattle.message.specs.Rules.{form_of, form_checks}
 use Rattle.message.specs.Fields.{sender_of}
 use Rattle.message.specs.declared.Kind.TheVariants.{Esi, Suo, Var}

@@ -1,6 +1,6 @@
 -- What is read of a table by value: its holidays are those that are lent, and past the last customer stands nobody.
 -- Assumes nothing.
-use Rattle.std.specs.Prelude.{None, Option, Some}
+use Rattle.std.specs.Prelude.{None, Option, Some, is_some, not}
 use mathlib.Core.Path.{◌≡◌, refl, sym, ap, ap₂, ◌∙◌}
 use mathlib.Core.Bool.{Bool, true, false}
 use mathlib.Core.List.{List, ◌++◌}
@@ -11,7 +11,7 @@ use lib.Dec.{eqb}
 use lib.ListN.{length, take, replicate, length-append, get_or-eq_default}
 use lib.Seq.{take-take, take_at, length-take-le}
 use Rattle.customer.specs.declared.Customer.{Customer}
-use Rattle.table.specs.Table.{Table, place_of, nobody, customer_in}
+use Rattle.table.specs.Table.{Table, place_of, nobody, customer_in, is_unknown}
 use Rattle.table.specs.Named.{customer_at, named}
 use Rattle.table.specs.Written.{table_size, holidays_start}
 use Rattle.table.specs.Decode.{table_of, holiday_count}
@@ -58,6 +58,14 @@ module _ (b : List ℕ) (h : Holidays) (e : h ≡ holidays_of (table_of b)) wher
   pub lent_count : h.count ≡ length (take h.count h.dates)
   unfolding holidays_of
   lent_count = ap (λ (x : Holidays). x.count) e ∙ ap length lent_dates
+
+-- a place that is none
+pub none_found : (b : Bool) (f : Option ℕ) → is_some f ≡ not b → b ≡ is_unknown f
+unfolding is_unknown
+none_found true None e = refl
+none_found false None e = e
+none_found true (Some i) e = e
+none_found false (Some i) e = refl
 
 -- the customer who is found, and nobody
 module _ (t : Table) (who : List ℕ) (f : Option ℕ) (r : Customer) (p : f ≡ place_of t who) where

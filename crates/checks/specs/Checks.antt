@@ -14,7 +14,7 @@ use Rattle.acceptance.specs.Stamps.{holds_stamp, live_stamps, once_used}
 use Rattle.table.specs.Table.{Table, place_of, is_unknown}
 use Rattle.table.specs.Named.{named}
 use Rattle.message.specs.Layout.{field, no_field, field_text}
-use Rattle.message.specs.Order.{Check}
+use Rattle.message.specs.declared.Check.{Check}
 use Rattle.message.specs.Rules.{form_of, form_checks}
 use Rattle.message.specs.Fields.{receiver_of, sender_of, stamp_text_of, stamp_of, date_of_stamp, version_of, transport_generation_of}
 use Rattle.message.specs.Fields.{working_generation_of, digest_field_of, checksum_field_of}

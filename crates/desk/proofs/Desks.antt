@@ -1,6 +1,6 @@
 -- A desk after a call or a reply is put together from what the functions computed, field by field.
 -- Assumes nothing.
-use Rattle.std.specs.Prelude.{None, Option}
+use Rattle.std.specs.Prelude.{None, Option, Result}
 use mathlib.Core.Path.{◌≡◌, sym, ap, ap₂, ◌∙◌}
 use mathlib.Core.List.{List}
 use Prim.Native.Nat.{ℕ}
@@ -77,7 +77,7 @@ module _ (n m : ℕ) (served refusing d : Held) (p : n ≡ m) where
 
 -- ---- what is told of a reply
 
-pub told_by : (h : Held) (r : List ℕ) (f : Fault) (x : Finding) (d : Held) (l n : ℕ) → x ≡ finding_of f → d ≡ held_after h r f
+pub told_by : (h : Held) (r : List ℕ) (f : Result Unit Fault) (x : Finding) (d : Held) (l n : ℕ) → x ≡ finding_of f → d ≡ held_after h r f
     → l ≡ letter_in r → n ≡ code_in r
     → ◌≡◌ {A = Checked} (record { finding = x; held = d; letter = l; code = n }) (checked_by h r f)
 unfolding checked_by

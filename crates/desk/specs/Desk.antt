@@ -1,6 +1,6 @@
 -- What the desk checks of a reply, in document 02's order, and which key it keeps (R-5; document 001, 4.3.4 and 4.4.4).
 -- Assumes nothing.
-use Rattle.std.specs.Prelude.{ℕ, Bool, true, List, [], ◌∷◌, ◌++◌, eqb, ltb, length, get_or, None, Option, Some}
+use Rattle.std.specs.Prelude.{ℕ, Bool, true, List, [], ◌∷◌, ◌++◌, eqb, ltb, length, get_or, None, Option, Some, Err, Ok, Result}
 use Rattle.ground.specs.Choice.{both, fails, pick}
 use Rattle.ground.specs.Lists.{all, same}
 use Rattle.text.specs.Characters.{digit}
@@ -10,11 +10,11 @@ use Rattle.des.specs.Des.{deciphered}
 use Rattle.keys.specs.Parity.{odd_parity}
 use Rattle.keys.specs.Keys.{next_generation}
 use Rattle.message.specs.Layout.{field, field_text, fields, offset_in}
-use Rattle.message.specs.Order.{Check, first_failing}
+use Rattle.message.specs.declared.Check.{Check}
+use Rattle.message.specs.Order.{first_failing}
 use Rattle.message.specs.Rules.{one_of}
 use Rattle.message.specs.Fields.{receiver_of, sender_of, stamp_text_of, transport_generation_of, working_generation_of}
 use Rattle.message.specs.declared.Fault.{Fault}
-use Rattle.message.specs.declared.Fault.TheVariants.{Sound, Found}
 use Rattle.checks.specs.Checks.{check, check_field, checksum_differs, key_or0}
 use Rattle.verdict.specs.Outcomes.{is_sound}
 use Rattle.desk_form.specs.Replies.{encloses, reply_checks}
@@ -108,14 +108,14 @@ kept_from h r =
     }
 
 -- kept exactly if all pass
-unfoldable pub held_after : Held → List ℕ → Fault → Held
+unfoldable pub held_after : Held → List ℕ → Result Unit Fault → Held
 held_after h r f = pick (both (is_sound f) (encloses r)) (kept_from h r) h
 
 -- ---- what is told: the finding, and the bank's own word, also where the desk refuses
 
-unfoldable pub finding_of : Fault → Finding
-finding_of Sound = Passes
-finding_of (Found code field about) = Fails code field
+unfoldable pub finding_of : Result Unit Fault → Finding
+finding_of (Ok _) = Passes
+finding_of (Err fault) = Fails fault.code fault.field
 
 -- K or E, and the code; 0 where they can't be read
 unfoldable pub letter_in : List ℕ → ℕ
@@ -126,7 +126,7 @@ unfoldable pub code_in : List ℕ → ℕ
 code_in r =
     pick (both (eqb (length (field_text (field 5) r)) 4) (all digit (field_text (field 5) r))) (decimal (field_text (field 5) r)) 0
 
-unfoldable pub checked_by : Held → List ℕ → Fault → Checked
+unfoldable pub checked_by : Held → List ℕ → Result Unit Fault → Checked
 checked_by h r f = record { finding = finding_of f; held = held_after h r f; letter = letter_in r; code = code_in r }
 
 unfoldable pub esi_checked : Held → Sent → List ℕ → Checked

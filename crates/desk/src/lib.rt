@@ -8,7 +8,8 @@ ghost use Rattle.ground.specs.Lists.{part, same};
 ghost use Rattle.text.specs.Numbers.{decimal, hex};
 ghost use Rattle.refusals.specs.Refusals.{lowest};
 ghost use Rattle.message.specs.Layout.{field, field_text};
-ghost use Rattle.message.specs.Order.{Check, first_failing};
+ghost use Rattle.message.specs.declared.Check.{Check};
+ghost use Rattle.message.specs.Order.{first_failing};
 ghost use Rattle.message.specs.Fields.{receiver_of, stamp_text_of};
 ghost use Rattle.desk.specs.Sent.{sent_by};
 ghost use Rattle.checks.specs.Checks.{check, check_field, checksum_differs};
@@ -405,30 +406,26 @@ fn code_in(r: &[u8]) -> u32
 // ---- the checks, in their order
 
 // A check's fault, where it fails.
-fn fault_if(code: u32, field: u32, failed: bool) -> message::Fault
+fn fault_if(code: u32, field: u32, failed: bool) -> Result<(), message::Fault>
     ensures { result ≡ first_failing (check_field code field failed ∷ []) }
 {
     if failed {
-        return message::Fault::Found {
+        return Err(message::Fault {
             code,
             field,
             about: message::About::Answered,
-        };
+        });
     }
-    message::Fault::Sound
+    Ok(())
 }
 
 // The second fault where there is no first: of two lists of checks, one after the other.
-fn or_else(a: message::Fault, b: message::Fault) -> message::Fault
+fn or_else(a: Result<(), message::Fault>, b: Result<(), message::Fault>) -> Result<(), message::Fault>
     ensures { (xs ys : List Check) → a ≡ first_failing xs → b ≡ first_failing ys → result ≡ first_failing (xs ++ ys) }
 {
     match a {
-        message::Fault::Sound => b,
-        message::Fault::Found { code, field, about } => message::Fault::Found {
-            code,
-            field,
-            about,
-        },
+        Ok(()) => b,
+        Err(fault) => Err(fault),
     }
 }
 
@@ -440,7 +437,7 @@ fn fault_if_other(
     from: usize,
     to: usize,
     r: &[u8],
-) -> message::Fault
+) -> Result<(), message::Fault>
     requires { from ≤ to }
     ensures { result ≡ first_failing
         (check_field code field (fails (same awaited.now (part from (to - from) r.now))) ∷ []) }
@@ -482,7 +479,7 @@ fn is_enclosed_even(h: Held, r: &[u8]) -> bool
 }
 
 // 3021: identity and qualifier count.
-fn receiver_faults(own: [u8; 25], r: &[u8]) -> message::Fault
+fn receiver_faults(own: [u8; 25], r: &[u8]) -> Result<(), message::Fault>
     ensures { result ≡ first_failing (check 3021 (fails (same own (receiver_of r.now))) ∷ []) }
 {
     let width = 25;
@@ -490,7 +487,7 @@ fn receiver_faults(own: [u8; 25], r: &[u8]) -> message::Fault
 }
 
 // 3011 of field 10, then of field 11, 3020, 3030.
-fn reply_key_faults(h: Held, s: Sent, r: &[u8]) -> message::Fault
+fn reply_key_faults(h: Held, s: Sent, r: &[u8]) -> Result<(), message::Fault>
     ensures { result ≡ first_failing (reply_key_checks h s r.now) }
 {
     let held = h.working;
@@ -504,7 +501,7 @@ fn reply_key_faults(h: Held, s: Sent, r: &[u8]) -> message::Fault
 }
 
 // 3022, the stamp of what was sent.
-fn stamp_faults(s: Sent, r: &[u8]) -> message::Fault
+fn stamp_faults(s: Sent, r: &[u8]) -> Result<(), message::Fault>
     ensures { result ≡ first_failing (stamp_sent_checks s r.now) }
 {
     let stamp = s.stamp;
@@ -512,7 +509,7 @@ fn stamp_faults(s: Sent, r: &[u8]) -> message::Fault
 }
 
 // 3027 of field 13 and of the one-time key, then 3028 of the digest.
-fn content_faults(area: u8, once: [u8; 16], digest: [u8; 16], r: &[u8]) -> message::Fault
+fn content_faults(area: u8, once: [u8; 16], digest: [u8; 16], r: &[u8]) -> Result<(), message::Fault>
     ensures { result ≡ first_failing
         (unlike (field 13) (area ∷ []) (field_text (field 13) r.now) ∷
         unlike (field 15) once (field_text (field 15) r.now) ∷
@@ -526,7 +523,7 @@ fn content_faults(area: u8, once: [u8; 16], digest: [u8; 16], r: &[u8]) -> messa
 }
 
 // 3027 field by field, then 3028. What was sent to the bank comes back from it, so the two parties are exchanged.
-fn batch_faults(s: Sent, r: &[u8]) -> message::Fault
+fn batch_faults(s: Sent, r: &[u8]) -> Result<(), message::Fault>
     ensures { result ≡ first_failing (batch_sent_checks s r.now) }
 {
     let bank = s.receiver;
@@ -542,7 +539,7 @@ fn batch_faults(s: Sent, r: &[u8]) -> message::Fault
 }
 
 // The first fault of the bank's ESI: form, receiver, stamp, keys.
-fn esi_faults(h: Held, s: Sent, r: &[u8]) -> message::Fault
+fn esi_faults(h: Held, s: Sent, r: &[u8]) -> Result<(), message::Fault>
     ensures { result ≡ first_failing (desk_esi_checks h s r.now) }
 {
     let own = h.own;
@@ -554,7 +551,7 @@ fn esi_faults(h: Held, s: Sent, r: &[u8]) -> message::Fault
 }
 
 // The first fault of a PTE: whether it came, form, receiver, the batch, keys.
-fn pte_faults(h: Held, s: Sent, r: &[u8]) -> message::Fault
+fn pte_faults(h: Held, s: Sent, r: &[u8]) -> Result<(), message::Fault>
     ensures { result ≡ first_failing (desk_pte_checks h s r.now) }
 {
     let own = h.own;
@@ -587,39 +584,31 @@ fn kept_from(h: Held, r: &[u8]) -> Held
 }
 
 // The desk after a reply: a key is kept exactly if all checks pass.
-fn held_after(h: Held, r: &[u8], f: message::Fault) -> Held
+fn held_after(h: Held, r: &[u8], f: Result<(), message::Fault>) -> Held
     ensures { result ≡ held_after h r.now f }
 {
     match f {
-        message::Fault::Sound => {
+        Ok(()) => {
             if desk_form::encloses_key(r) {
                 return kept_from(h, r);
             }
             h
         }
-        message::Fault::Found {
-            code: _,
-            field: _,
-            about: _,
-        } => h,
+        Err(_) => h,
     }
 }
 
-fn finding_of(f: message::Fault) -> Finding
+fn finding_of(f: Result<(), message::Fault>) -> Finding
     ensures { result ≡ finding_of f }
 {
     match f {
-        message::Fault::Sound => Finding::Passes,
-        message::Fault::Found {
-            code,
-            field,
-            about: _,
-        } => Finding::Fails { code, field },
+        Ok(()) => Finding::Passes,
+        Err(message::Fault { code, field, .. }) => Finding::Fails { code, field },
     }
 }
 
 // What is told of a reply whose first fault is known.
-fn checked_by(h: Held, r: &[u8], f: message::Fault) -> Checked
+fn checked_by(h: Held, r: &[u8], f: Result<(), message::Fault>) -> Checked
     ensures { result ≡ checked_by h r.now f }
 {
     let finding = finding_of(f);

@@ -1,5 +1,6 @@
 -- The tests of a reply's fields: a rule asks only of the field that it names, and the first field that is broken decides.
 -- Assumes nothing.
+use Rattle.std.specs.Prelude.{Ok, Result}
 use mathlib.Core.Path.{◌≡◌, refl, sym, ap, ap₂, ◌∙◌}
 use mathlib.Core.Bool.{Bool, true, false}
 use mathlib.Core.List.{List, [], ◌∷◌, ◌++◌, map}
@@ -18,13 +19,13 @@ use Rattle.ground.proofs.Choices.{picks, skips}
 use Rattle.ground.proofs.Bools.{outcome}
 use Rattle.text.specs.Characters.{all_blank}
 use Rattle.message.specs.Layout.{Field, laid, no_field, fields, field_text}
-use Rattle.message.specs.Order.{Check, first_failing}
+use Rattle.message.specs.declared.Check.{Check}
+use Rattle.message.specs.Order.{first_failing, fault_at}
 use Rattle.message.specs.Rules.{Rule, only, format_holds, obeys, each_field}
 use Rattle.message.specs.declared.Kind.TheVariants.{Esi as AnyKind}
 use Rattle.message.specs.declared.About.{About}
 use Rattle.message.specs.declared.About.TheVariants.{Answered}
 use Rattle.message.specs.declared.Fault.{Fault}
-use Rattle.message.specs.declared.Fault.TheVariants.{Sound, Found}
 use Rattle.message.proofs.Order.{first_sound, first_found}
 use Rattle.message.proofs.Tests.{Apart, made, not_made, asked, unasked}
 use Rattle.desk_form.specs.Replies.{reply_layout, reply_size, awaited, encloses, reply_hexes, reply_form, reply_format_fails}
@@ -135,7 +136,7 @@ format-fails k r n text enclosed over q x y =
 
 -- ---- the first of some fields that is broken
 
-abbrev pub lowest : (ℕ → Bool) → ℕ → About → List Field → Fault
+abbrev pub lowest : (ℕ → Bool) → ℕ → About → List Field → Result Unit Fault
 lowest broken code about fs = first_failing (each_field code about broken fs)
 
 -- the number of the field at a place of a list
@@ -144,12 +145,12 @@ nth fs i = (get_or fs i (laid no_field "" 0)).number
 
 module _ (broken : ℕ → Bool) (code : ℕ) (about : About) (fs : List Field) where
   first : (f : Field) (l : List Field) → lowest broken code about (f ∷ l)
-      ≡ pick (broken f.number) (Found code f.number about) (lowest broken code about l)
+      ≡ pick (broken f.number) (fault_at code f.number about) (lowest broken code about l)
   unfolding each_field first_failing first_that
   first f l = refl
 
   next : (i : ℕ) → i < length fs → lowest broken code about (drop i fs)
-      ≡ pick (broken (nth fs i)) (Found code (nth fs i) about) (lowest broken code about (drop (i + 1) fs))
+      ≡ pick (broken (nth fs i)) (fault_at code (nth fs i) about) (lowest broken code about (drop (i + 1) fs))
   next i h = rw (add-one i, drop-cons fs i (laid no_field "" 0) h) (first (get_or fs i (laid no_field "" 0)) _)
 
   -- the loop over the fields: the first i of them are not broken
@@ -163,13 +164,13 @@ module _ (broken : ℕ → Bool) (code : ℕ) (about : About) (fs : List Field) 
       inside : i < length fs
       inside = rw e at h
 
-      pub stops : r ≡ true → Found code n about ≡ lowest broken code about fs
-      stops d = ap (λ (x : ℕ). Found code x about) p ∙ sym (rest ∙ next i inside ∙ picks _ _ _ (test ∙ d))
+      pub stops : r ≡ true → fault_at code n about ≡ lowest broken code about fs
+      stops d = ap (λ (x : ℕ). fault_at code x about) p ∙ sym (rest ∙ next i inside ∙ picks _ _ _ (test ∙ d))
 
       pub goes_on : r ≡ false → lowest broken code about fs ≡ lowest broken code about (drop (i + 1) fs)
       goes_on d = rest ∙ next i inside ∙ skips _ _ _ (test ∙ d)
 
-    pub ends : count ≤ i → Sound ≡ lowest broken code about fs
+    pub ends : count ≤ i → (Ok tt) ≡ lowest broken code about fs
     unfolding each_field first_failing first_that
     ends h = sym (rest ∙ ap (λ (l : List Field). lowest broken code about l) (drop_of_length-le fs (rw e at h)))
 
@@ -203,7 +204,7 @@ module _ (k : Reply) (r : List ℕ) (size : ℕ) (e : size ≡ reply_size k) whe
   values = each_field 3011 Answered (reply_value_fails k r) (reply_layout k)
 
   -- shorter than the layout
-  pub too_short : length r < size → Found 3032 0 Answered ≡ first_failing (reply_checks k r)
+  pub too_short : length r < size → fault_at 3032 0 Answered ≡ first_failing (reply_checks k r)
   unfolding reply_checks first_failing first_that
   too_short h = sym (picks _ _ _ (ap (ltb (length r)) (sym e) ∙ lt-ltb (length r) size h))
 
@@ -212,12 +213,12 @@ module _ (k : Reply) (r : List ℕ) (size : ℕ) (e : size ≡ reply_size k) whe
     unfolding reply_checks first_failing first_that
     not_short = skips _ _ _ (ap (ltb (length r)) (sym e) ∙ le-ltb (length r) size h)
 
-    module _ (found : Fault) (p : found ≡ first_failing format) where
+    module _ (found : Result Unit Fault) (p : found ≡ first_failing format) where
       -- a fault of the format comes first
-      pub by_format : (code field : ℕ) (of : About) → found ≡ Found code field of
-          → Found code field of ≡ first_failing (reply_checks k r)
+      pub by_format : (code field : ℕ) (of : About) → found ≡ fault_at code field of
+          → fault_at code field of ≡ first_failing (reply_checks k r)
       by_format code field of d = sym (not_short ∙ first_found _ _ code field of (sym p ∙ d))
 
       -- where there is none, the values decide
-      pub by_values : (second : Fault) → found ≡ Sound → second ≡ first_failing values → second ≡ first_failing (reply_checks k r)
+      pub by_values : (second : Result Unit Fault) → found ≡ Ok tt → second ≡ first_failing values → second ≡ first_failing (reply_checks k r)
       by_values second d q = q ∙ sym (not_short ∙ first_sound _ _ (sym p ∙ d))

@@ -9,7 +9,7 @@ use Rattle.text.specs.Numbers.{decimal}
 use Rattle.text.specs.Letters.{letters}
 use Rattle.calendar.specs.Dates.{real_date, real_time}
 use Rattle.message.specs.Layout.{Field, field, subfield, no_field, total, field_text, bank_esi, pte}
-use Rattle.message.specs.Order.{Check}
+use Rattle.message.specs.declared.Check.{Check}
 use Rattle.message.specs.Rules.{Rule, Form, only, rule, one_of, format_holds, value_holds, each_field}
 use Rattle.message.specs.declared.About.TheVariants.{Answered}
 use Rattle.desk_form.specs.declared.Reply.{Reply}

@@ -244,7 +244,7 @@ fn is_broken(
 }
 
 // The lowest field that is broken.
-fn first_broken(values: bool, code: u32, k: Reply, r: &[u8]) -> message::Fault
+fn first_broken(values: bool, code: u32, k: Reply, r: &[u8]) -> Result<(), message::Fault>
     ensures { result ≡ first_failing (each_field code Answered
         (pick values (reply_value_fails k r.now) (reply_format_fails k r.now)) (reply_layout k)) }
 {
@@ -255,35 +255,31 @@ fn first_broken(values: bool, code: u32, k: Reply, r: &[u8]) -> message::Fault
     while i < count {
         let number = number_of(i);
         if is_broken(values, k, enclosed, blank_over, number, span(i, i + 1, r)) {
-            return message::Fault::Found {
+            return Err(message::Fault {
                 code,
                 field: number,
                 about: message::About::Answered,
-            };
+            });
         }
         i += 1;
     }
-    message::Fault::Sound
+    Ok(())
 }
 
 // The first fault: shorter than the layout, else of the format, else of the values.
-pub fn fault_of(k: Reply, r: &[u8]) -> message::Fault
+pub fn fault_of(k: Reply, r: &[u8]) -> Result<(), message::Fault>
     ensures { result ≡ first_failing (reply_checks k r.now) }
 {
     if r.len() < size_of(k) {
-        return message::Fault::Found {
+        return Err(message::Fault {
             code: 3032,
             field: 0,
             about: message::About::Answered,
-        };
+        });
     }
     let format = first_broken(false, 3010, k, r);
     match format {
-        message::Fault::Sound => first_broken(true, 3011, k, r),
-        message::Fault::Found { code, field, about } => message::Fault::Found {
-            code,
-            field,
-            about,
-        },
+        Ok(()) => first_broken(true, 3011, k, r),
+        Err(fault) => Err(fault),
     }
 }

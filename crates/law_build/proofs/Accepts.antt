@@ -11,7 +11,7 @@ use Rattle.calendar.specs.declared.Date.{Date}
 use Rattle.table.specs.Table.{Table, place_of, nobody, customer_in, customer_fits, settings_fit, sound_table}
 use Rattle.table.proofs.Sound.{parts}
 use Rattle.table.proofs.Places.{known_at, found_is}
-use Rattle.message.specs.Order.{Check}
+use Rattle.message.specs.declared.Check.{Check}
 use Rattle.message.proofs.Order.{NoneFails}
 use Rattle.notice.specs.Codes.{code_in, codes}
 use Rattle.reply.specs.Reply.{reply_of}

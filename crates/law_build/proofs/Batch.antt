@@ -1,6 +1,6 @@
 -- A SUO that is built opens a frame under the one-time key that was made; its VAR repeats it and carries the digest, so that no check fails.
 -- Assumes nothing.
-use Rattle.std.specs.Prelude.{Option, Some}
+use Rattle.std.specs.Prelude.{Option, Some, Ok}
 use mathlib.Core.Path.{◌≡◌, refl, sym, ap, ◌∙◌, subst}
 use mathlib.Core.Bool.{true, false}
 use mathlib.Core.Logic.{inl}
@@ -32,7 +32,6 @@ use Rattle.message.specs.Rules.{form_of, form_checks}
 use Rattle.message.specs.Fields.{sender_of, date_of_stamp, method_of, transport_generation_of, once_field_of, digest_field_of}
 use Rattle.message.specs.declared.Kind.TheVariants.{Suo, Var}
 use Rattle.message.specs.declared.About.TheVariants.{Answered, Closing}
-use Rattle.message.specs.declared.Fault.TheVariants.{Sound}
 use Rattle.message.specs.declared.Collected.{Collected}
 use Rattle.message.proofs.Order.{NoneFails, accepted}
 use Rattle.checks.specs.Checks.{party_checks, stamp_checks, type_checks, pair_checks, key_checks, frame_checks}
@@ -158,7 +157,7 @@ module _ (h : Held) (software method stamp : List ℕ) (area once digest request
         none_join (form_checks (form_of Suo) Answered (whole Suo suo)) _ (accepted _ well.form)
         (none_join (form_checks (form_of Var) Closing (collected var)) _
         (form_about (form_of Var) Answered Closing (collected var)
-        (accepted _ (subst (λ (x : Collected). first_failing (form_checks (form_of Var) Answered x) ≡ Sound) var_known (form_sound Var var form))))
+        (accepted _ (subst (λ (x : Collected). first_failing (form_checks (form_of Var) Answered x) ≡ Ok tt) var_known (form_sound Var var form))))
         (none_join (party_checks t suo_text) _ (party_passes t today h stamp suo_text sound m suo_says)
         (none_join (type_checks c kind) _ type_passes
         (none_join (pair_checks suo_text var) _

@@ -1,6 +1,7 @@
 -- A message whose checks of form all pass has neither LF nor CR, and only bytes: what each of its fields may hold is characters from the blank
 -- to 255.
 -- Assumes nothing.
+use Rattle.std.specs.Prelude.{Ok}
 use Prim.Native.Nat.{ℕ, ◌+◌, ◌≤◌, ◌<◌}
 use mathlib.Core.Path.{◌≡◌, refl, sym, ap, ◌∙◌, subst}
 use mathlib.Core.Bool.{Bool, true, false, false≢true}
@@ -27,7 +28,6 @@ use Rattle.message.specs.declared.Kind.{Kind}
 use Rattle.message.specs.declared.Kind.TheVariants.{Esi, Suo, Var}
 use Rattle.message.specs.declared.About.{About}
 use Rattle.message.specs.declared.About.TheVariants.{Answered}
-use Rattle.message.specs.declared.Fault.TheVariants.{Sound}
 use Rattle.message.specs.declared.Collected.{Collected}
 use Rattle.message.proofs.Laws.{numbers_of, sound_field}
 use Rattle.message.proofs.Places.{layout_within}
@@ -141,7 +141,7 @@ fields_adjoin Esi m p = parts_printed 0 (map (λ f. f.length) (layout Esi)) m p
 fields_adjoin Suo m p = parts_printed 0 (map (λ f. f.length) (layout Suo)) m p
 fields_adjoin Var m p = parts_printed 0 (map (λ f. f.length) (layout Var)) m p
 
-module _ (k : Kind) (about : About) (m : Collected) (sound : first_failing (form_checks (form_of k) about m) ≡ Sound) where
+module _ (k : Kind) (about : About) (m : Collected) (sound : first_failing (form_checks (form_of k) about m) ≡ Ok tt) where
   abbrev IsField : ℕ → Type 0
   IsField n = member n (numbers_of (layout k)) ≡ true
 
@@ -164,7 +164,7 @@ module _ (k : Kind) (about : About) (m : Collected) (sound : first_failing (form
 
 -- ---- a message without fault that is as long as its layout
 
-module _ (k : Kind) (m : List ℕ) (long : length m ≡ layout_length k) (sound : first_failing (form_checks (form_of k) Answered (whole k m)) ≡ Sound) where
+module _ (k : Kind) (m : List ℕ) (long : length m ≡ layout_length k) (sound : first_failing (form_checks (form_of k) Answered (whole k m)) ≡ Ok tt) where
   known_first : part 0 (layout_length k) (known_text k m) ≡ m
   unfolding known_text
   known_first =

@@ -1,5 +1,6 @@
 -- A call that is served found no fault in the form of what it built, which is as long as its layout; so that is a line of bytes.
 -- Assumes nothing.
+use Rattle.std.specs.Prelude.{Ok}
 use Prim.Native.Nat.{ℕ}
 use mathlib.Core.Path.{◌≡◌, refl, sym, ap, ◌∙◌, subst}
 use mathlib.Core.Bool.{true}
@@ -17,7 +18,6 @@ use Rattle.message.specs.Rules.{form_of, form_checks}
 use Rattle.message.specs.declared.Kind.{Kind}
 use Rattle.message.specs.declared.Kind.TheVariants.{Esi, Suo, Var}
 use Rattle.message.specs.declared.About.TheVariants.{Answered}
-use Rattle.message.specs.declared.Fault.TheVariants.{Sound}
 use Rattle.desk.specs.declared.Held.{Held}
 use Rattle.build.specs.Building.{esi_building, suo_building, var_made}
 use Rattle.build.specs.declared.Given.{Given}
@@ -36,7 +36,7 @@ pub record Clean (n : ℕ) (m : List ℕ) : Type 0 where
   pub plain : Plain m
   pub bytes : AllBytes m
 
-clean : (k : Kind) (m : List ℕ) → length m ≡ layout_length k → first_failing (form_checks (form_of k) Answered (whole k m)) ≡ Sound
+clean : (k : Kind) (m : List ℕ) → length m ≡ layout_length k → first_failing (form_checks (form_of k) Answered (whole k m)) ≡ Ok tt
     → Clean (layout_length k) m
 clean k m l s = record { long = l; plain = message_plain k m l s; bytes = message_bytes k m l s }
 

@@ -1,5 +1,6 @@
 -- An ESI that is built is the first record of its file, whole, and no check of it fails; the reply passes a desk with the same keys.
 -- Assumes nothing.
+use Rattle.std.specs.Prelude.{Ok}
 use mathlib.Core.Path.{◌≡◌, refl, sym, ap, ◌∙◌, subst}
 use mathlib.Core.Bool.{true}
 use mathlib.Core.Logic.{inl}
@@ -17,7 +18,6 @@ use Rattle.message.specs.Order.{first_failing}
 use Rattle.message.specs.Rules.{form_of, form_checks}
 use Rattle.message.specs.declared.Kind.TheVariants.{Esi}
 use Rattle.message.specs.declared.About.TheVariants.{Answered}
-use Rattle.message.specs.declared.Fault.TheVariants.{Sound}
 use Rattle.message.specs.declared.Collected.{Collected}
 use Rattle.message.proofs.Order.{NoneFails, accepted}
 use Rattle.checks.specs.Checks.{party_checks, stamp_checks, esi_key_checks, esi_checks}
@@ -56,7 +56,7 @@ module _ (h : Held) (software stamp : List ℕ) (request : ℕ) (z : Sized h sof
         let says = esi_says_lem h software stamp request z in
         let keys = esi_key_checks c built in
         none_join (form_checks (form_of Esi) Answered (collected built)) _
-        (accepted _ (subst (λ (x : Collected). first_failing (form_checks (form_of Esi) Answered x) ≡ Sound) esi_known well.form))
+        (accepted _ (subst (λ (x : Collected). first_failing (form_checks (form_of Esi) Answered x) ≡ Ok tt) esi_known well.form))
         (none_join (party_checks t built) _ (party_passes t today h stamp built sound may says)
         (none_join (stamp_checks t c today built) _ (stamp_passes t today h stamp built sound may says)
         (none_join keys _

@@ -1,6 +1,7 @@
 -- A record that begins with its kind's tag, states its kind's length and has it is taken as a whole message; the call that built it found no
 -- fault in its form.
 -- Assumes nothing.
+use Rattle.std.specs.Prelude.{Err, Ok, Result}
 use mathlib.Core.Path.{◌≡◌, refl, sym, ap, ◌∙◌}
 use mathlib.Core.Bool.{Bool, true, false}
 use mathlib.Core.List.{List, [], ◌∷◌}
@@ -26,7 +27,6 @@ use Rattle.message.specs.declared.Extent.TheVariants.{Whole}
 use Rattle.message.specs.declared.About.{About}
 use Rattle.message.specs.declared.About.TheVariants.{Answered}
 use Rattle.message.specs.declared.Fault.{Fault}
-use Rattle.message.specs.declared.Fault.TheVariants.{Sound, Found}
 use Rattle.message.specs.declared.Collected.{Collected}
 use Rattle.message.proofs.Order.{NoneFails, none_left, none_right}
 use Rattle.verdict.specs.Outcomes.{is_sound}
@@ -112,12 +112,12 @@ module _ (k : Kind) (m : List ℕ) (states : States k m) where
 
 -- ---- its form
 
-sound_is : (f : Fault) → is_sound f ≡ true → f ≡ Sound
+sound_is : (f : Result Unit Fault) → is_sound f ≡ true → f ≡ Ok tt
 unfolding is_sound
-sound_is Sound e = refl
-sound_is (Found code field about) e = let z : ◌≡◌ {A = Bool} false true = e in cc
+sound_is (Ok _) e = refl
+sound_is (Err fault) e = let z : ◌≡◌ {A = Bool} false true = e in cc
 
-pub form_sound : (k : Kind) (m : List ℕ) → breaks_rules k m ≡ false → first_failing (form_checks (form_of k) Answered (whole k m)) ≡ Sound
+pub form_sound : (k : Kind) (m : List ℕ) → breaks_rules k m ≡ false → first_failing (form_checks (form_of k) Answered (whole k m)) ≡ Ok tt
 unfolding breaks_rules
 form_sound k m e = sound_is _ (fails-false _ e)
 
@@ -143,7 +143,7 @@ form_about form a b m n =
 pub record Well (k : Kind) (h : Held) (m : List ℕ) : Type 0 where
   pub transport : h.transport.generation ≤ 9
   pub working : h.working.generation ≤ 9
-  pub form : first_failing (form_checks (form_of k) Answered (whole k m)) ≡ Sound
+  pub form : first_failing (form_checks (form_of k) Answered (whole k m)) ≡ Ok tt
 
 pub served_well : (k : Kind) (h : Held) (m : List ℕ) → lowest (building_refusals k h m) ≡ 0 → Well k h m
 unfolding building_refusals other_generation

@@ -1,6 +1,7 @@
 -- What a verdict leaves is still a table, of the same day:
 -- it writes a sound table over the one before, and changes customers and seed alone.
 -- Assumes nothing.
+use Rattle.std.specs.Prelude.{Err, Ok, Result}
 use Prim.Native.Nat.{ℕ, ◌<◌, ◌^◌}
 use mathlib.Core.Path.{◌≡◌, refl, ap, ◌∙◌}
 use mathlib.Core.List.{List}
@@ -12,7 +13,6 @@ use Rattle.table.specs.Written.{written}
 use Rattle.table.specs.Decode.{table_of, is_table}
 use Rattle.table.proofs.Decode.{rewritten_is}
 use Rattle.message.specs.declared.Fault.{Fault}
-use Rattle.message.specs.declared.Fault.TheVariants.{Sound, Found as FaultFound}
 use Rattle.message.specs.Order.{first_failing}
 use Rattle.checks.specs.Checks.{esi_checks, frame_checks, key_or0}
 use Rattle.verdict.specs.Outcomes.{table_by, esi_table, frame_table, esi_leaves, frame_leaves}
@@ -29,10 +29,10 @@ pub record Still (b v : List ℕ) : Type 0 where
 
 -- ---- the day
 
-by_day : (f : Fault) (t u : Table) → u.day ≡ t.day → (table_by f t u).day ≡ t.day
+by_day : (f : Result Unit Fault) (t u : Table) → u.day ≡ t.day → (table_by f t u).day ≡ t.day
 unfolding table_by
-by_day Sound t u e = e
-by_day (FaultFound c n a) t u e = refl
+by_day (Ok _) t u e = e
+by_day (Err fault) t u e = refl
 
 esi_day : (t : Table) (o : Occasion) (m : Collected) → (esi_table t o m).day ≡ t.day
 unfolding esi_table

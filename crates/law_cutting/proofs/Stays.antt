@@ -1,6 +1,6 @@
 -- What stays in a session whatever is done to it: each part is made anew within its range, or is the one before.
 -- Assumes nothing.
-use Rattle.std.specs.Prelude.{None, Option, Some}
+use Rattle.std.specs.Prelude.{None, Option, Some, Err, Ok, Result}
 use Prim.Native.Nat.{ℕ, ◌<◌, ◌≤◌, ◌^◌}
 use mathlib.Core.Path.{◌≡◌, refl, ap, ◌∙◌}
 use mathlib.Core.List.{List, [], ◌∷◌}
@@ -22,7 +22,6 @@ use Rattle.message.specs.Fields.{sender_of, once_field_of}
 use Rattle.message.specs.declared.Kind.{Kind}
 use Rattle.message.specs.declared.Extent.{Extent}
 use Rattle.message.specs.declared.Fault.{Fault}
-use Rattle.message.specs.declared.Fault.TheVariants.{Sound, Found}
 use Rattle.checks.specs.Checks.{key_or0}
 use Rattle.message.specs.declared.Collected.{Collected}
 use Rattle.checks.specs.declared.Frame.{Frame}
@@ -145,10 +144,10 @@ unfolding sender_of offset_in pick
 sender_length m l = part_length m 60 25 (omega arith)
 
 -- the count of keys made is carried round
-outcome_made : (f : Fault) (g : Granted) (made : ℕ) → made < 2 ^ 64 → (outcome_of f g made).made < 2 ^ 64
+outcome_made : (f : Result Unit Fault) (g : Granted) (made : ℕ) → made < 2 ^ 64 → (outcome_of f g made).made < 2 ^ 64
 unfolding outcome_of
-outcome_made Sound g made h = omega arith
-outcome_made (Found code field about) g made h = h
+outcome_made (Ok _) g made h = omega arith
+outcome_made (Err fault) g made h = h
 
 pub esi_made : (t : Table) (o : Occasion) (m : Collected) → o.made < 2 ^ 64 → (esi_outcome t o m).made < 2 ^ 64
 unfolding esi_outcome

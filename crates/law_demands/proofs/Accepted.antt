@@ -1,6 +1,7 @@
 -- The verdict is the first failing check's, or what acceptance grants where none fails;
 -- every granted code is K and every check's code is E.
 -- Assumes nothing.
+use Rattle.std.specs.Prelude.{Err, Ok, Result}
 use Prim.Native.Nat.{ℕ}
 use mathlib.Core.Path.{◌≡◌, refl, sym, ap, ◌∙◌}
 use mathlib.Core.List.{List, [], ◌∷◌}
@@ -10,8 +11,8 @@ use Rattle.ground.proofs.Choices.{left, right, join, fails-true}
 use Rattle.acceptance.specs.declared.Granted.{Granted}
 use Rattle.table.specs.Table.{Table}
 use Rattle.message.specs.declared.Fault.{Fault}
-use Rattle.message.specs.declared.Fault.TheVariants.{Sound, Found}
-use Rattle.message.specs.Order.{Check, first_failing}
+use Rattle.message.specs.declared.Check.{Check}
+use Rattle.message.specs.Order.{first_failing, fault_at}
 use Rattle.message.specs.declared.About.{About}
 use Rattle.message.proofs.Order.{NoneFails, accepted_iff, found_first}
 use Rattle.checks.specs.Checks.{esi_checks, frame_checks}
@@ -39,26 +40,26 @@ true_none (c ∷ cs) e = (fails-true _ (left _ _ e), true_none cs (right _ _ e))
 
 -- the answer's code and field are the outcome's, and the table after it is that of the verdict
 module _ (checks : List Check) (g : Granted) (made : ℕ) (t u : Table) (k : is_accepted g.code ≡ true)
-    (e : (code field : ℕ) (about : About) → first_failing checks ≡ Found code field about → is_accepted code ≡ false) where
-  accepts : (f : Fault) → first_failing checks ≡ f → is_accepted (outcome_of f g made).code ≡ true → none_fails checks ≡ true
+    (e : (code field : ℕ) (about : About) → first_failing checks ≡ fault_at code field about → is_accepted code ≡ false) where
+  accepts : (f : Result Unit Fault) → first_failing checks ≡ f → is_accepted (outcome_of f g made).code ≡ true → none_fails checks ≡ true
   unfolding outcome_of
-  accepts Sound p a = none_true checks ((accepted_iff checks).0 p)
-  accepts (Found code field about) p a = absurd (false≢true (sym (e code field about p) ∙ a))
+  accepts (Ok _) p a = none_true checks ((accepted_iff checks).0 p)
+  accepts (Err fault) p a = absurd (false≢true (sym (e fault.code fault.field fault.about p) ∙ a))
 
-  passed : first_failing checks ≡ Sound → is_accepted (outcome_of (first_failing checks) g made).code ≡ true
+  passed : first_failing checks ≡ Ok tt → is_accepted (outcome_of (first_failing checks) g made).code ≡ true
   unfolding outcome_of
-  passed p = ap (λ (f : Fault). is_accepted (outcome_of f g made).code) p ∙ k
+  passed p = ap (λ (f : Result Unit Fault). is_accepted (outcome_of f g made).code) p ∙ k
 
-  found : (code field : ℕ) (about : About) → first_failing checks ≡ Found code field about
+  found : (code field : ℕ) (about : About) → first_failing checks ≡ fault_at code field about
       → ((outcome_of (first_failing checks) g made).code ≡ code) × ((outcome_of (first_failing checks) g made).field ≡ field)
   unfolding outcome_of
   found code field about p =
-      (ap (λ (f : Fault). (outcome_of f g made).code) p, ap (λ (f : Fault). (outcome_of f g made).field) p)
+      (ap (λ (f : Result Unit Fault). (outcome_of f g made).code) p, ap (λ (f : Result Unit Fault). (outcome_of f g made).field) p)
 
-  keeps : (f : Fault) → is_accepted (outcome_of f g made).code ≡ false → table_by f t u ≡ t
+  keeps : (f : Result Unit Fault) → is_accepted (outcome_of f g made).code ≡ false → table_by f t u ≡ t
   unfolding outcome_of table_by
-  keeps Sound a = absurd (false≢true (sym a ∙ k))
-  keeps (Found code field about) a = refl
+  keeps (Ok _) a = absurd (false≢true (sym a ∙ k))
+  keeps (Err fault) a = refl
 
   -- a reply with the outcome's code and field
   pub verdict_of : (r : Answering) → r.code ≡ (outcome_of (first_failing checks) g made).code

@@ -1,6 +1,7 @@
 -- What a call shows is the reply of its one turn, whose field 20 is its notice; with 1010 or 1011 that notice holds the contents of the
 -- field that the reply names, which is field 1 where the reading rules give it.
 -- Assumes nothing.
+use Rattle.std.specs.Prelude.{Err, Ok, Result}
 use Prim.Native.Nat.{ℕ, ◌≤◌}
 use mathlib.Core.Path.{◌≡◌, refl, sym, ap, ◌∙◌, subst}
 use mathlib.Core.Bool.{Bool, true, false, false≢true}
@@ -14,10 +15,10 @@ use Rattle.acceptance.specs.declared.Granted.{Granted}
 use Rattle.table.specs.Decode.{table_of, is_table}
 use Rattle.message.specs.Layout.{field, field_text}
 use Rattle.message.specs.Contents.{at_fault}
-use Rattle.message.specs.Order.{Check, first_failing}
+use Rattle.message.specs.declared.Check.{Check}
+use Rattle.message.specs.Order.{first_failing}
 use Rattle.message.specs.declared.Collected.{Collected}
 use Rattle.message.specs.declared.Fault.{Fault}
-use Rattle.message.specs.declared.Fault.TheVariants.{Sound, Found}
 use Rattle.checks.specs.Checks.{esi_checks, frame_checks}
 use Rattle.checks.specs.declared.Frame.{Frame}
 use Rattle.verdict.specs.Outcomes.{grant_to, outcome_of, esi_outcome, frame_outcome}
@@ -113,19 +114,19 @@ module _ (o : Opening) (made : ℕ) (b r left : List ℕ) where
     abbrev granted : Granted
     granted = grant_to (table_of b) (occasion o made) f.suo.text f.var.text
 
-    abbrev answer_by : Fault → Answering
+    abbrev answer_by : Result Unit Fault → Answering
     answer_by x = verdict_answer (table_of left) o true (outcome_of x granted made) f.suo.text f.var.text
 
     -- what is granted is no fault
-    found_fault : (x : Fault) → first_failing checks ≡ x → is_fault (outcome_of x granted made).code ≡ true → ShowsFault o made b left r
+    found_fault : (x : Result Unit Fault) → first_failing checks ≡ x → is_fault (outcome_of x granted made).code ≡ true → ShowsFault o made b left r
     unfolding outcome_of frame_outcome occasion
-    found_fault Sound p e =
+    found_fault (Ok _) p e =
         absurd (false≢true (sym (fault_refused granted.code e) ∙ grants_k (table_of b) (occasion o made) f.suo.text f.var.text))
-    found_fault (Found code n about) p e =
-        of_frame f code n about i p
-        (subst (λ (x : Fault). ShowsField (answer_by x) (at_fault about f.suo.text f.var.text)) (sym p)
+    found_fault (Err fault) p e =
+        of_frame f fault.code fault.field fault.about i p
+        (subst (λ (x : Result Unit Fault). ShowsField (answer_by x) (at_fault fault.about f.suo.text f.var.text)) (sym p)
         (found_shows (table_of left) o true granted made f.suo.text f.var.text checks
-        (frame_narrow (table_of b) o.today o.kind f) code n about p e))
+        (frame_narrow (table_of b) o.today o.kind f) fault.code fault.field fault.about p e))
 
     frame_fault : ShowsFault o made b left r
     unfolding frame_outcome occasion

@@ -1,6 +1,7 @@
 -- A bare reply holds the contents of the field that it names, and its notice shows them; a fault of form is on a field of the layout, whose
 -- contents are kept whole.
 -- Assumes nothing.
+use Rattle.std.specs.Prelude.{Err, Ok, Result}
 use Prim.Native.Nat.{ℕ, ◌≤◌}
 use mathlib.Core.Path.{◌≡◌, refl, sym, subst, ap, ◌∙◌}
 use mathlib.Core.Bool.{Bool, true, false, false≢true}
@@ -19,12 +20,12 @@ use Rattle.acceptance.specs.declared.Granted.{Granted}
 use Rattle.table.specs.Table.{Table}
 use Rattle.message.specs.Layout.{field, fields, layout, width_in, field_text}
 use Rattle.message.specs.Contents.{contents_as, held_in, at_fault}
-use Rattle.message.specs.Order.{Check, first_failing}
+use Rattle.message.specs.declared.Check.{Check}
+use Rattle.message.specs.Order.{first_failing, fault_at}
 use Rattle.message.specs.Rules.{each_field, form_checks}
 use Rattle.message.specs.declared.About.{About}
 use Rattle.message.specs.declared.About.TheVariants.{Answered, Closing}
 use Rattle.message.specs.declared.Fault.{Fault}
-use Rattle.message.specs.declared.Fault.TheVariants.{Sound, Found}
 use Rattle.message.specs.declared.Collected.{Collected}
 use Rattle.message.proofs.Kept.{held_field}
 use Rattle.message.proofs.Order.{each_check, first_each, found_first}
@@ -101,26 +102,26 @@ narrow_is code n e p = leb-true _ 17 (sym (either_decides _ _ (not_failed _ e)) 
 
 module _ (t : Table) (o : Opening) (pte : Bool) (g : Granted) (made : ℕ) (m closing : List ℕ) (cs : List Check)
     (w : each_check narrow cs ≡ true) where
-  pub found_shows : (code n : ℕ) (about : About) → first_failing cs ≡ Found code n about → is_fault code ≡ true
-      → ShowsField (verdict_answer t o pte (outcome_of (Found code n about) g made) m closing) (at_fault about m closing)
+  pub found_shows : (code n : ℕ) (about : About) → first_failing cs ≡ fault_at code n about → is_fault code ≡ true
+      → ShowsField (verdict_answer t o pte (outcome_of (fault_at code n about) g made) m closing) (at_fault about m closing)
   unfolding verdict_answer outcome_of
   found_shows code n about p e =
       subst (λ (a : Answering). ShowsField a (at_fault about m closing)) (sym (picks _ _ _ (fault_bare code e)))
       (bare_shows t o pte code n (at_fault about m closing) e (narrow_is code n e (first_each narrow cs code n about w p)))
 
   -- whatever the verdict is: what is granted is no fault
-  pub verdict_shows : (f : Fault) → first_failing cs ≡ f → is_accepted g.code ≡ true → is_fault (outcome_of f g made).code ≡ true
+  pub verdict_shows : (f : Result Unit Fault) → first_failing cs ≡ f → is_accepted g.code ≡ true → is_fault (outcome_of f g made).code ≡ true
       → ((about : About) → at_fault about m closing ≡ m)
       → ShowsField (verdict_answer t o pte (outcome_of f g made) m closing) m
   unfolding outcome_of
-  verdict_shows Sound p k e a = absurd (false≢true (sym (fault_refused g.code e) ∙ k))
-  verdict_shows (Found code n about) p k e a =
-      subst (ShowsField (verdict_answer t o pte (outcome_of (Found code n about) g made) m closing)) (a about) (found_shows code n about p e)
+  verdict_shows (Ok _) p k e a = absurd (false≢true (sym (fault_refused g.code e) ∙ k))
+  verdict_shows (Err fault) p k e a =
+      subst (ShowsField (verdict_answer t o pte (outcome_of (fault_at fault.code fault.field fault.about) g made) m closing)) (a fault.about) (found_shows fault.code fault.field fault.about p e)
 
 found_code : (t : Table) (o : Opening) (pte : Bool) (code n : ℕ) (about : About) (g : Granted) (made : ℕ) (m closing : List ℕ)
-    → (verdict_answer t o pte (outcome_of (Found code n about) g made) m closing).code ≡ code
+    → (verdict_answer t o pte (outcome_of (fault_at code n about) g made) m closing).code ≡ code
 unfolding outcome_of
-found_code t o pte code n about g made m closing = verdict_code t o pte (outcome_of (Found code n about) g made) m closing
+found_code t o pte code n about g made m closing = verdict_code t o pte (outcome_of (fault_at code n about) g made) m closing
 
 pub alone : (m : List ℕ) (about : About) → at_fault about m m ≡ m
 unfolding at_fault
@@ -149,7 +150,7 @@ frame_fault_shown o s f m reply says e before here after order n fail =
     let cs = frame_checks s.table o.today o.kind (frame_of f m) in
     let g = grant_to s.table (occasion o s.made) f.suo.text m.text in
     let t = frame_table s.table (occasion o s.made) (frame_of f m) in
-    let found : first_failing cs ≡ Found here.code here.field here.about = found_first cs here.code here.field here.about
+    let found : first_failing cs ≡ fault_at here.code here.field here.about = found_first cs here.code here.field here.about
     (record {
       before = before;
       here = here;
@@ -159,9 +160,9 @@ frame_fault_shown o s f m reply says e before here after order n fail =
       failed = fail;
       is = refl;
     }) in
-    let r : verdict_answer t o true (outcome_of (Found here.code here.field here.about) g s.made) f.suo.text m.text
+    let r : verdict_answer t o true (outcome_of (fault_at here.code here.field here.about) g s.made) f.suo.text m.text
     ≡ reply =
-    ap (λ (x : Fault). verdict_answer t o true (outcome_of x g s.made) f.suo.text m.text) (sym found) ∙ one_is _ _ says in
+    ap (λ (x : Result Unit Fault). verdict_answer t o true (outcome_of x g s.made) f.suo.text m.text) (sym found) ∙ one_is _ _ says in
     subst (λ (a : Answering). ShowsField a (at_fault here.about f.suo.text m.text)) r
     (found_shows t o true g s.made f.suo.text m.text cs (frame_narrow s.table o.today o.kind (frame_of f m)) here.code
     here.field here.about found

@@ -23,9 +23,9 @@ use Rattle.table.specs.Decode.{table_of, is_table}
 use Rattle.refusals.specs.Refusals.{Refusal, refusal, no_table}
 use Rattle.table_calls.specs.Calls.{setting_up_refusals, adding_refusals, entering_refusals, ordering_refusals}
 use Rattle.table_calls.specs.declared.Setting.{Setting}
-use Rattle.message.specs.Order.{Check, first_failing}
+use Rattle.message.specs.declared.Check.{Check}
+use Rattle.message.specs.Order.{first_failing, fault_at}
 use Rattle.message.specs.declared.About.{About}
-use Rattle.message.specs.declared.Fault.TheVariants.{Found}
 use Rattle.checks.specs.Checks.{esi_checks, frame_checks}
 use Rattle.message.specs.declared.Collected.{Collected}
 use Rattle.checks.specs.declared.Frame.{Frame}
@@ -263,7 +263,7 @@ pub data ShowsFault (o : Opening) (made : ℕ) (b left r : List ℕ) : Type 0 wh
   of_esi : (m : Collected) → IsReply (esi_reply o made b m left) r → ShowsField (esi_reply o made b m left) m.text
       → ShowsFault o made b left r
   of_frame : (f : Frame) (code number : ℕ) (about : About) → IsReply (frame_reply o made b f left) r
-      → first_failing (frame_checks (table_of b) o.today o.kind f) ≡ Found code number about
+      → first_failing (frame_checks (table_of b) o.today o.kind f) ≡ fault_at code number about
       → ShowsField (frame_reply o made b f left) (at_fault about f.suo.text f.var.text)
       → ShowsFault o made b left r
 

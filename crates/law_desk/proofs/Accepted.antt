@@ -1,7 +1,7 @@
 -- An accepted message's reply is full, made with the keys that the message names, and repeats the message: so the desk with the same keys
 -- passes it.
 -- Assumes nothing.
-use Rattle.std.specs.Prelude.{None, Some}
+use Rattle.std.specs.Prelude.{None, Some, Ok}
 use Prim.Native.Nat.{ℕ, zero, suc, ◌<◌}
 use mathlib.Core.Path.{◌≡◌, refl, sym, ap, ◌∙◌}
 use mathlib.Core.Bool.{Bool, true}
@@ -25,7 +25,6 @@ use Rattle.table.specs.Named.{named}
 use Rattle.table.proofs.Sound.{parts}
 use Rattle.table.proofs.Places.{found_is, named_at}
 use Rattle.message.specs.Fields.{sender_of, transport_generation_of, working_generation_of}
-use Rattle.message.specs.declared.Fault.TheVariants.{Sound}
 use Rattle.message.proofs.Order.{accepted}
 use Rattle.checks.specs.declared.Occasion.{Occasion}
 use Rattle.verdict.specs.Outcomes.{grant_to, record_after, table_after, outcome_of}
@@ -66,7 +65,7 @@ module _ (t : Table) (sound : sound_table t ≡ true) (o : Opening) (x : Occasio
   u = table_after t x m closing once
 
   abbrev answer : Answering
-  answer = full_answer u o pte (outcome_of Sound g x.made) m closing
+  answer = full_answer u o pte (outcome_of (Ok tt) g x.made) m closing
 
   sender_sound : (customer_fits c ≡ true) × (sound_customer c ≡ true)
   unfolding customer_in

@@ -1,7 +1,7 @@
 -- A desk that is opened, given a key or that kept one is a sound desk again: each key has odd parity, and the current generation follows the
 -- one before it.
 -- Assumes nothing.
-use Rattle.std.specs.Prelude.{None, Option, Some}
+use Rattle.std.specs.Prelude.{None, Option, Some, Err, Ok, Result}
 use Prim.Native.Nat.{ℕ, ◌^◌, ◌<◌, ◌≤◌}
 use mathlib.Core.Path.{◌≡◌, refl, sym, ap, ◌∙◌, subst}
 use mathlib.Core.Bool.{Bool, true, false, false≢true}
@@ -23,10 +23,10 @@ use Rattle.refusals.proofs.Refused.{served}
 use Rattle.splices.proofs.Splice.{AllBytes}
 use Rattle.edge.specs.Edge.{fixed}
 use Rattle.desk.specs.Held.{before_named, key_named, replaced, opening_refusals, opened_desk, no_desk, given_by, opening, entering_refusals, entered_desk, entering}
-use Rattle.message.specs.Order.{Check, first_failing}
+use Rattle.message.specs.declared.Check.{Check}
+use Rattle.message.specs.Order.{first_failing}
 use Rattle.message.specs.Fields.{working_generation_of}
 use Rattle.message.specs.declared.Fault.{Fault}
-use Rattle.message.specs.declared.Fault.TheVariants.{Sound, Found}
 use Rattle.message.proofs.Order.{NoneFails, accepted, none_right}
 use Rattle.checks.specs.Checks.{checksum_differs, key_or0}
 use Rattle.verdict.specs.Outcomes.{is_sound}
@@ -300,13 +300,13 @@ module _ (h : Held) (s : Sent) (r : List ℕ) (g : Good h) (n : NoneFails (reply
         };
       }
 
-kept_or_not : (h : Held) (s : Sent) (r : List ℕ) (front : List Check) → Good h → (f : Fault)
+kept_or_not : (h : Held) (s : Sent) (r : List ℕ) (front : List Check) → Good h → (f : Result Unit Fault)
     → first_failing (front ++ reply_key_checks h s r) ≡ f → Good (pick (both (is_sound f) (encloses r)) (kept_from h r) h)
 unfolding is_sound
-kept_or_not h s r front g Sound e =
+kept_or_not h s r front g (Ok _) e =
     picked Good (both true (encloses r)) (kept_from h r) h
     (λ t. kept_good h s r g (none_right front (reply_key_checks h s r) (accepted _ e)) (right true (encloses r) t)) (λ t. g)
-kept_or_not h s r front g (Found code field about) e =
+kept_or_not h s r front g (Err fault) e =
     picked Good (both false (encloses r)) (kept_from h r) h (λ t. absurd (false≢true (left false (encloses r) t))) (λ t. g)
 
 -- whatever was found

@@ -1,6 +1,6 @@
 -- The step that ends an accepted message gives its full answer: no check failed, so what was granted is answered, on the table afterwards.
 -- Assumes nothing.
-use Rattle.std.specs.Prelude.{Some}
+use Rattle.std.specs.Prelude.{Some, Err, Ok, Result}
 use Prim.Native.Nat.{ℕ, ◌+◌, ◌≤◌}
 use mathlib.Core.Path.{◌≡◌, refl, sym, ap, ap₂, ◌∙◌, subst}
 use mathlib.Core.Bool.{Bool, true, false, false≢true}
@@ -23,14 +23,14 @@ use Rattle.table.specs.Table.{Table, sound_table}
 use Rattle.table.specs.Named.{named}
 use Rattle.message.specs.Layout.{field_text, offset_in, width_in, fields}
 use Rattle.message.specs.Fields.{sender_of, transport_generation_of, working_generation_of}
-use Rattle.message.specs.Order.{Check, first_failing}
+use Rattle.message.specs.declared.Check.{Check}
+use Rattle.message.specs.Order.{first_failing, fault_at}
 use Rattle.message.specs.Rules.{form_of, form_checks}
 use Rattle.message.specs.declared.Kind.TheVariants.{Esi, Suo, Var}
 use Rattle.message.specs.declared.About.{About}
 use Rattle.message.specs.declared.About.TheVariants.{Answered, Closing}
 use Rattle.message.specs.declared.Collected.{Collected}
 use Rattle.message.specs.declared.Fault.{Fault}
-use Rattle.message.specs.declared.Fault.TheVariants.{Sound, Found}
 use Rattle.message.proofs.Order.{NoneFails, accepted, none_fails_lem, none_left, none_right}
 use Rattle.checks.specs.Checks.{esi_checks, frame_checks, party_checks, stamp_checks, esi_key_checks, type_checks, key_checks, pair_checks, room_checks, key_or0}
 use Rattle.checks.specs.declared.Frame.{Frame}
@@ -60,20 +60,20 @@ use Rattle.law_desk.proofs.Kept.{passed_so}
 -- ---- where the reply is K no check failed
 
 accepts : (checks : List Check) (g : Granted) (made : ℕ)
-    → ((code field : ℕ) (about : About) → first_failing checks ≡ Found code field about → is_accepted code ≡ false)
-    → (f : Fault) → first_failing checks ≡ f → is_accepted (outcome_of f g made).code ≡ true → f ≡ Sound
+    → ((code field : ℕ) (about : About) → first_failing checks ≡ fault_at code field about → is_accepted code ≡ false)
+    → (f : Result Unit Fault) → first_failing checks ≡ f → is_accepted (outcome_of f g made).code ≡ true → f ≡ Ok tt
 unfolding outcome_of
-accepts checks g made e Sound p a = refl
-accepts checks g made e (Found code field about) p a = absurd (false≢true (sym (e code field about p) ∙ a))
+accepts checks g made e (Ok _) p a = refl
+accepts checks g made e (Err fault) p a = absurd (false≢true (sym (e fault.code fault.field fault.about p) ∙ a))
 
 -- the answer is then the full one
-full_then : (t : Table) (x : Occasion) (o : Opening) (pte : Bool) (m closing : List ℕ) (u v : Table) (f : Fault) → f ≡ Sound → v ≡ u
+full_then : (t : Table) (x : Occasion) (o : Opening) (pte : Bool) (m closing : List ℕ) (u v : Table) (f : Result Unit Fault) → f ≡ Ok tt → v ≡ u
     → verdict_answer v o pte (outcome_of f (grant_to t x m closing) x.made) m closing
-    ≡ full_answer u o pte (outcome_of Sound (grant_to t x m closing) x.made) m closing
+    ≡ full_answer u o pte (outcome_of (Ok tt) (grant_to t x m closing) x.made) m closing
 unfolding outcome_of
 full_then t x o pte m closing u v f p q =
-    ap₂ (λ (w : Table) (y : Fault). verdict_answer w o pte (outcome_of y (grant_to t x m closing) x.made) m closing) q p
-    ∙ verdict_full u o pte (outcome_of Sound (grant_to t x m closing) x.made) m closing (grants_full t x m closing)
+    ap₂ (λ (w : Table) (y : Result Unit Fault). verdict_answer w o pte (outcome_of y (grant_to t x m closing) x.made) m closing) q p
+    ∙ verdict_full u o pte (outcome_of (Ok tt) (grant_to t x m closing) x.made) m closing (grants_full t x m closing)
 
 -- ---- one character of a field
 
@@ -116,11 +116,11 @@ answers_so u o pte out m closing l n t w =
 
 -- ---- an ESI
 
-module _ (t : Table) (today : Date) (m : Collected) (e : first_failing (esi_checks t today m) ≡ Sound) where
+module _ (t : Table) (today : Date) (m : Collected) (e : first_failing (esi_checks t today m) ≡ Ok tt) where
   abbrev c : Customer
   c = named t (sender_of m.text)
 
-  esi_none : (first_failing (form_checks (form_of Esi) Answered m) ≡ Sound) × NoneFails (esi_key_checks c m.text)
+  esi_none : (first_failing (form_checks (form_of Esi) Answered m) ≡ Ok tt) × NoneFails (esi_key_checks c m.text)
   esi_none =
       let l₃ = esi_key_checks c m.text ++ room_checks t c today in
       let l₂ = stamp_checks t c today m.text ++ l₃ in
@@ -140,12 +140,12 @@ module _ (t : Table) (today : Date) (m : Collected) (e : first_failing (esi_chec
 
 -- the reply passes, whoever is compared
 module _ (o : Opening) (t : Table) (x : Occasion) (m : Collected) (h : Held) (sound : sound_table t ≡ true) (l : length m.text ≡ 161)
-    (e : first_failing (esi_checks t x.today m) ≡ Sound) where
+    (e : first_failing (esi_checks t x.today m) ≡ Ok tt) where
   abbrev esi_u : Table
   esi_u = table_after t x m.text m.text 0
 
   abbrev esi_answer : Answering
-  esi_answer = full_answer esi_u o false (outcome_of Sound (grant_to t x m.text m.text) x.made) m.text m.text
+  esi_answer = full_answer esi_u o false (outcome_of (Ok tt) (grant_to t x m.text m.text) x.made) m.text m.text
 
   abbrev esi_a : Accepted t x.today m.text
   esi_a = esi_accepted t x.today m e
@@ -160,7 +160,7 @@ module _ (o : Opening) (t : Table) (x : Occasion) (m : Collected) (h : Held) (so
   esi_formed = esi_facts esi_answer m esi_made refl refl (esi_none t x.today m e).0
 
   module _ (same : SameKeys h (named t (sender_of m.text)) m.text) where
-    esi_sound : first_failing (desk_esi_checks h (sent_by m.text m.text) (reply_of esi_answer)) ≡ Sound
+    esi_sound : first_failing (desk_esi_checks h (sent_by m.text m.text) (reply_of esi_answer)) ≡ Ok tt
     esi_sound =
         let w = (esi_keys t x.today m e).1 in
         none_fails_lem _
@@ -174,24 +174,24 @@ module _ (o : Opening) (t : Table) (x : Occasion) (m : Collected) (h : Held) (so
     esi_passed =
         let w = (esi_keys t x.today m e).1 in
         let k = (esi_keys t x.today m e).0 in
-        subst (λ (f : Fault). Passed h (named t (sender_of m.text)) (named esi_u (sender_of m.text)) m.text (reply_of esi_answer)
+        subst (λ (f : Result Unit Fault). Passed h (named t (sender_of m.text)) (named esi_u (sender_of m.text)) m.text (reply_of esi_answer)
         (checked_by h (reply_of esi_answer) f)) (sym esi_sound)
         (passed_so ReplyEsi t sound o x m.text m.text 0 l l esi_a esi_formed w.0 k.0 w.1 k.1 h same)
 
 -- where the reply is K every check passed
 passed_checks : (o : Opening) (s : Standing) (m : Collected) (a : Answering)
     → a ≡ verdict_answer (esi_table s.table (occasion o s.made) m) o false (esi_outcome s.table (occasion o s.made) m) m.text m.text
-    → is_accepted a.code ≡ true → first_failing (esi_checks s.table o.today m) ≡ Sound
+    → is_accepted a.code ≡ true → first_failing (esi_checks s.table o.today m) ≡ Ok tt
 unfolding esi_outcome occasion
 passed_checks o s m a q k =
     accepts (esi_checks s.table o.today m) (grant_to s.table (occasion o s.made) m.text m.text) s.made
     (esi_e s.table o.today m) _ refl
     (ap is_accepted (sym (ap (λ (y : Answering). y.code) q ∙ verdict_code _ o false _ m.text m.text)) ∙ k)
 
-esi_full : (o : Opening) (s : Standing) (m : Collected) → first_failing (esi_checks s.table o.today m) ≡ Sound
+esi_full : (o : Opening) (s : Standing) (m : Collected) → first_failing (esi_checks s.table o.today m) ≡ Ok tt
     → verdict_answer (esi_table s.table (occasion o s.made) m) o false (esi_outcome s.table (occasion o s.made) m) m.text m.text
     ≡ full_answer (table_after s.table (occasion o s.made) m.text m.text 0) o false
-    (outcome_of Sound (grant_to s.table (occasion o s.made) m.text m.text) (occasion o s.made).made) m.text m.text
+    (outcome_of (Ok tt) (grant_to s.table (occasion o s.made) m.text m.text) (occasion o s.made).made) m.text m.text
 unfolding esi_outcome occasion
 esi_full o s m e =
     full_then s.table (occasion o s.made) o false m.text m.text _ _ _ e (esi_is s.table (occasion o s.made) m e)
@@ -217,13 +217,13 @@ esi_ends_pass o s m a h sound l p k same =
 
 -- ---- a frame
 
-module _ (t : Table) (today : Date) (kind : ℕ) (f : Frame) (e : first_failing (frame_checks t today kind f) ≡ Sound) where
+module _ (t : Table) (today : Date) (kind : ℕ) (f : Frame) (e : first_failing (frame_checks t today kind f) ≡ Ok tt) where
   abbrev fc : Customer
   fc = named t (sender_of f.suo.text)
 
   record FrameNone : Type 0 where
-    suo : first_failing (form_checks (form_of Suo) Answered f.suo) ≡ Sound
-    var : first_failing (form_checks (form_of Var) Closing f.var) ≡ Sound
+    suo : first_failing (form_checks (form_of Suo) Answered f.suo) ≡ Ok tt
+    var : first_failing (form_checks (form_of Var) Closing f.var) ≡ Ok tt
     pairs : NoneFails (pair_checks f.suo.text f.var.text)
     keys : NoneFails (key_checks t fc today f)
 
@@ -264,12 +264,12 @@ module _ (t : Table) (today : Date) (kind : ℕ) (f : Frame) (e : first_failing 
 
 module _ (o : Opening) (t : Table) (x : Occasion) (f : Frame) (h : Held) (sound : sound_table t ≡ true) (l : length f.suo.text ≡ 161)
     (n : length f.var.text ≡ 161)
-    (e : first_failing (frame_checks t x.today x.kind f) ≡ Sound) where
+    (e : first_failing (frame_checks t x.today x.kind f) ≡ Ok tt) where
   abbrev pte_u : Table
   pte_u = table_after t x f.suo.text f.var.text (key_or0 f.once)
 
   abbrev pte_answer : Answering
-  pte_answer = full_answer pte_u o true (outcome_of Sound (grant_to t x f.suo.text f.var.text) x.made) f.suo.text f.var.text
+  pte_answer = full_answer pte_u o true (outcome_of (Ok tt) (grant_to t x f.suo.text f.var.text) x.made) f.suo.text f.var.text
 
   abbrev pte_a : Accepted t x.today f.suo.text
   pte_a = frame_accepted t x.today x.kind f e
@@ -286,7 +286,7 @@ module _ (o : Opening) (t : Table) (x : Occasion) (f : Frame) (h : Held) (sound 
       pte_facts pte_answer f.suo f.var pte_made refl refl z.suo z.var
 
   module _ (same : SameKeys h (named t (sender_of f.suo.text)) f.suo.text) where
-    pte_sound : first_failing (desk_pte_checks h (sent_by f.suo.text f.var.text) (reply_of pte_answer)) ≡ Sound
+    pte_sound : first_failing (desk_pte_checks h (sent_by f.suo.text f.var.text) (reply_of pte_answer)) ≡ Ok tt
     pte_sound =
         let w = (frame_keys t x.today x.kind f e).1 in
         let b = frame_generations t x.today x.kind f e in
@@ -302,7 +302,7 @@ module _ (o : Opening) (t : Table) (x : Occasion) (f : Frame) (h : Held) (sound 
     pte_passed =
         let w = (frame_keys t x.today x.kind f e).1 in
         let k = (frame_keys t x.today x.kind f e).0 in
-        subst (λ (y : Fault). Passed h (named t (sender_of f.suo.text)) (named pte_u (sender_of f.suo.text)) f.suo.text
+        subst (λ (y : Result Unit Fault). Passed h (named t (sender_of f.suo.text)) (named pte_u (sender_of f.suo.text)) f.suo.text
         (reply_of pte_answer) (checked_by h (reply_of pte_answer) y)) (sym pte_sound)
         (passed_so Pte t sound o x f.suo.text f.var.text (key_or0 f.once) l n pte_a pte_formed w.0 k.0 w.1 k.1 h same)
 
@@ -310,18 +310,18 @@ module _ (o : Opening) (t : Table) (x : Occasion) (f : Frame) (h : Held) (sound 
 passed_frame : (o : Opening) (s : Standing) (f : Frame) (a : Answering)
     → a ≡ verdict_answer (frame_table s.table (occasion o s.made) f) o true (frame_outcome s.table (occasion o s.made) f)
     f.suo.text f.var.text
-    → is_accepted a.code ≡ true → first_failing (frame_checks s.table o.today o.kind f) ≡ Sound
+    → is_accepted a.code ≡ true → first_failing (frame_checks s.table o.today o.kind f) ≡ Ok tt
 unfolding frame_outcome occasion
 passed_frame o s f a q k =
     accepts (frame_checks s.table o.today o.kind f) (grant_to s.table (occasion o s.made) f.suo.text f.var.text) s.made
     (frame_e s.table o.today o.kind f) _ refl
     (ap is_accepted (sym (ap (λ (y : Answering). y.code) q ∙ verdict_code _ o true _ f.suo.text f.var.text)) ∙ k)
 
-frame_full : (o : Opening) (s : Standing) (f : Frame) → first_failing (frame_checks s.table o.today o.kind f) ≡ Sound
+frame_full : (o : Opening) (s : Standing) (f : Frame) → first_failing (frame_checks s.table o.today o.kind f) ≡ Ok tt
     → verdict_answer (frame_table s.table (occasion o s.made) f) o true (frame_outcome s.table (occasion o s.made) f)
     f.suo.text f.var.text
     ≡ full_answer (table_after s.table (occasion o s.made) f.suo.text f.var.text (key_or0 f.once)) o true
-    (outcome_of Sound (grant_to s.table (occasion o s.made) f.suo.text f.var.text) (occasion o s.made).made)
+    (outcome_of (Ok tt) (grant_to s.table (occasion o s.made) f.suo.text f.var.text) (occasion o s.made).made)
     f.suo.text f.var.text
 unfolding frame_outcome occasion
 frame_full o s f e =

@@ -1,5 +1,6 @@
 -- A finding is the first failing check's, since the desk's two lists are looked at in their order; no list has another code.
 -- Assumes nothing.
+use Rattle.std.specs.Prelude.{Err, Ok, Result}
 use Prim.Native.Nat.{ℕ}
 use mathlib.Core.Path.{◌≡◌, refl, sym, ap, ◌∙◌}
 use mathlib.Core.Bool.{Bool, true, false}
@@ -8,12 +9,12 @@ use native.Mathlib.Omega.{arith}
 use Rattle.ground.specs.Choice.{both, either, fails, pick}
 use Rattle.ground.specs.Lists.{member}
 use Rattle.ground.proofs.Choices.{join}
-use Rattle.message.specs.Order.{Check, first_failing}
+use Rattle.message.specs.declared.Check.{Check}
+use Rattle.message.specs.Order.{first_failing, fault_at}
 use Rattle.message.specs.Rules.{each_field}
 use Rattle.message.specs.declared.About.{About}
 use Rattle.message.specs.declared.Fault.{Fault}
-use Rattle.message.specs.declared.Fault.TheVariants.{Sound, Found}
-use Rattle.message.proofs.Order.{NoneFails, accepted, none_fails_lem, found_first, each_check, first_each}
+use Rattle.message.proofs.Order.{NoneFails, accepted, none_fails_lem, found_first, each_check, first_each, parts}
 use Rattle.verdict.specs.Outcomes.{is_sound}
 use Rattle.desk_form.specs.Replies.{reply_layout, encloses, reply_checks}
 use Rattle.desk.specs.Desk.{receiver_checks, reply_key_checks, stamp_sent_checks, desk_esi_checks, batch_sent_checks, came_checks, desk_pte_checks}
@@ -34,18 +35,18 @@ none_true (c ∷ cs) n = join _ _ (ap fails n.0) (none_true cs n.1)
 
 -- ---- a finding
 
-passes_of : (f : Fault) → finding_of f ≡ Passes → f ≡ Sound
+passes_of : (f : Result Unit Fault) → finding_of f ≡ Passes → f ≡ Ok tt
 unfolding finding_of
-passes_of Sound e = refl
-passes_of (Found code field about) e = absurd (let z : ◌≡◌ {A = ℕ} 0 1 = cc in omega arith)
+passes_of (Ok _) e = refl
+passes_of (Err fault) e = absurd (let z : ◌≡◌ {A = ℕ} 0 1 = cc in omega arith)
 
-fails_of : (f : Fault) (code field : ℕ) → finding_of f ≡ Fails code field → (about : About) × (f ≡ Found code field about)
+fails_of : (f : Result Unit Fault) (code field : ℕ) → finding_of f ≡ Fails code field → (about : About) × (f ≡ fault_at code field about)
 unfolding finding_of
-fails_of Sound code field e = absurd (let z : ◌≡◌ {A = ℕ} 0 1 = cc in omega arith)
-fails_of (Found c n about) code field e =
-    let p : c ≡ code = cc in
-    let q : n ≡ field = cc in
-    (about, cc)
+fails_of (Ok _) code field e = absurd (let z : ◌≡◌ {A = ℕ} 0 1 = cc in omega arith)
+fails_of (Err fault) code field e =
+    let p : fault.code ≡ code = cc in
+    let q : fault.field ≡ field = cc in
+    (fault.about, parts fault code field p q)
 
 found_by : (h : Held) (r : List ℕ) (checks : List Check) → FoundBy checks (checked_by h r (first_failing checks))
 unfolding checked_by finding_of
@@ -64,14 +65,14 @@ finding_first h s r = (found_by h r (desk_esi_checks h s r), found_by h r (desk_
 
 -- ---- the keys
 
-sound_is : (checks : List Check) (f : Fault) → first_failing checks ≡ f → is_sound f ≡ none_fails checks
+sound_is : (checks : List Check) (f : Result Unit Fault) → first_failing checks ≡ f → is_sound f ≡ none_fails checks
 unfolding is_sound
-sound_is checks Sound e = sym (none_true checks (accepted checks e))
-sound_is checks (Found code field about) e = by (none_fails checks) refl
+sound_is checks (Ok _) e = sym (none_true checks (accepted checks e))
+sound_is checks (Err fault) e = by (none_fails checks) refl
   where
     by : (t : Bool) → none_fails checks ≡ t → false ≡ none_fails checks
     by true p =
-        let q : Found code field about ≡ Sound = sym e ∙ none_fails_lem checks (true_none checks p) in
+        let q : Err fault ≡ Ok tt = sym e ∙ none_fails_lem checks (true_none checks p) in
         absurd (let z : ◌≡◌ {A = ℕ} 0 1 = cc in omega arith)
     by false p = sym p
 

@@ -23,7 +23,7 @@ use Rattle.calendar.specs.Dates.{real_date, real_time}
 use Rattle.digest.specs.Mac.{checksum_of}
 use Rattle.customer.specs.Settings.{sound_name}
 use Rattle.message.specs.Layout.{field, whole_number, total, fields, field_text, pte}
-use Rattle.message.specs.Order.{Check}
+use Rattle.message.specs.declared.Check.{Check}
 use Rattle.message.specs.Rules.{only, one_of, format_holds, obeys, each_field}
 use Rattle.message.specs.declared.About.TheVariants.{Answered}
 use Rattle.message.proofs.Order.{NoneFails}

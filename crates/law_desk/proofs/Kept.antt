@@ -1,7 +1,7 @@
 -- A reply that passes leaves the desk with the bank's current working key: an enclosed one is kept, under the generation after the one used,
 -- and the key that was used stays beside it.
 -- Assumes nothing.
-use Rattle.std.specs.Prelude.{None, Option, Some}
+use Rattle.std.specs.Prelude.{None, Option, Some, Ok}
 use Prim.Native.Nat.{ℕ, ◌+◌}
 use mathlib.Core.Path.{◌≡◌, refl, sym, ap, ap₂, ◌∙◌}
 use mathlib.Core.Bool.{Bool, true, false}
@@ -20,7 +20,6 @@ use Rattle.changeover.proofs.Laws.{next_differs}
 use Rattle.table.specs.Table.{Table, sound_table}
 use Rattle.table.specs.Named.{named}
 use Rattle.message.specs.Fields.{sender_of, transport_generation_of, working_generation_of}
-use Rattle.message.specs.declared.Fault.TheVariants.{Sound}
 use Rattle.checks.specs.Checks.{key_or0}
 use Rattle.checks.specs.declared.Occasion.{Occasion}
 use Rattle.verdict.specs.Outcomes.{grant_to, table_after, outcome_of, is_sound}
@@ -73,7 +72,7 @@ module _ (k : Reply) (t : Table) (sound : sound_table t ≡ true) (o : Opening) 
   d = named (table_after t x m closing once) (sender_of m)
 
   abbrev answer : Answering
-  answer = full_answer (table_after t x m closing once) o (is_pte k) (outcome_of Sound (grant_to t x m closing) x.made) m closing
+  answer = full_answer (table_after t x m closing once) o (is_pte k) (outcome_of (Ok tt) (grant_to t x m closing) x.made) m closing
 
   abbrev r : List ℕ
   r = reply_of answer
@@ -100,11 +99,11 @@ module _ (k : Reply) (t : Table) (sound : sound_table t ≡ true) (o : Opening) 
         (ap (λ (y : Option ℕ). sealed y (grant_to t x m closing).enclosed) (sym transport_is)
         ∙ sym (skips false None (sealed answer.transport (grant_to t x m closing).enclosed) refl) ∙ p)
 
-    none_kept : encloses r ≡ false → held_after h r Sound ≡ h
+    none_kept : encloses r ≡ false → held_after h r (Ok tt) ≡ h
     unfolding held_after
     none_kept e = skips _ _ _ (fails_right _ _ e)
 
-    one_kept : encloses r ≡ true → held_after h r Sound ≡ kept_from h r
+    one_kept : encloses r ≡ true → held_after h r (Ok tt) ≡ kept_from h r
     unfolding held_after is_sound
     one_kept e = picks _ _ _ (decides true _ refl ∙ e)
 
@@ -126,19 +125,19 @@ module _ (k : Reply) (t : Table) (sound : sound_table t ≡ true) (o : Opening) 
     kept_working y e = ap₂ (with_enclosed h.working) (working_is k answer f) (ap key_or0 e)
 
     kept_current : encloses r ≡ true
-        → ((held_after h r Sound).working.generation ≡ d.working.generation) × ((held_after h r Sound).working.key ≡ d.working.key)
+        → ((held_after h r (Ok tt)).working.generation ≡ d.working.generation) × ((held_after h r (Ok tt)).working.key ≡ d.working.key)
     unfolding with_enclosed
     kept_current q =
         let p = enclosing _ refl q in
         let y = enclosed_is k answer f h keyed p.0 p.1 in
         let b = current_after t sound o x (is_pte k) m closing once l n a w held y.0 (granted_is y.0 y.1) in
-        let e : (held_after h r Sound).working ≡ with_enclosed h.working (working_generation_of m) y.0
+        let e : (held_after h r (Ok tt)).working ≡ with_enclosed h.working (working_generation_of m) y.0
         = ap (λ (z : Held). z.working) (one_kept q) ∙ kept_working y.0 y.2 in
         (ap (λ (z : Keys). z.generation) e ∙ sym b.0, ap (λ (z : Keys). z.key) e ∙ sym b.1)
 
     -- of the generation that the message names the same key is held
     named_still : (b : Bool) → encloses r ≡ b
-        → key_named (held_after h r Sound).working (working_generation_of m) ≡ key_named h.working (working_generation_of m)
+        → key_named (held_after h r (Ok tt)).working (working_generation_of m) ≡ key_named h.working (working_generation_of m)
     named_still true q =
         let p = enclosing _ refl q in
         let y = enclosed_is k answer f h keyed p.0 p.1 in
@@ -149,14 +148,14 @@ module _ (k : Reply) (t : Table) (sound : sound_table t ≡ true) (o : Opening) 
 
     -- nothing else of the desk changes
     rest_stays : (b : Bool) → encloses r ≡ b
-        → ((held_after h r Sound).own ≡ h.own) × ((held_after h r Sound).bank ≡ h.bank) × ((held_after h r Sound).transport ≡ h.transport)
+        → ((held_after h r (Ok tt)).own ≡ h.own) × ((held_after h r (Ok tt)).bank ≡ h.bank) × ((held_after h r (Ok tt)).transport ≡ h.transport)
     unfolding kept_from
     rest_stays true q =
         (ap (λ (z : Held). z.own) (one_kept q), ap (λ (z : Held). z.bank) (one_kept q), ap (λ (z : Held). z.transport) (one_kept q))
     rest_stays false q =
         (ap (λ (z : Held). z.own) (none_kept q), ap (λ (z : Held). z.bank) (none_kept q), ap (λ (z : Held). z.transport) (none_kept q))
 
-    pub passed_so : Passed h c d m r (checked_by h r Sound)
+    pub passed_so : Passed h c d m r (checked_by h r (Ok tt))
     unfolding checked_by finding_of
     passed_so =
         let s = rest_stays _ refl in

@@ -1,5 +1,6 @@
 -- The fields that a full reply repeats are those of a message without fault of form, so each passes the same test in the reply.
 -- Assumes nothing.
+use Rattle.std.specs.Prelude.{Ok}
 use Prim.Native.Nat.{ℕ}
 use mathlib.Core.Path.{◌≡◌, refl, sym, ap, ◌∙◌, subst}
 use mathlib.Core.Bool.{Bool, true, false}
@@ -19,7 +20,6 @@ use Rattle.message.specs.declared.Kind.{Kind}
 use Rattle.message.specs.declared.Kind.TheVariants.{Esi, Suo, Var}
 use Rattle.message.specs.declared.About.{About}
 use Rattle.message.specs.declared.About.TheVariants.{Answered, Closing}
-use Rattle.message.specs.declared.Fault.TheVariants.{Sound}
 use Rattle.message.specs.declared.Collected.{Collected}
 use Rattle.message.proofs.Laws.{numbers_of, in_each, sound_field}
 use Rattle.message.proofs.Tests.{obeys-append}
@@ -49,7 +49,7 @@ module _ (form : Form) (blank_over : Bool) (n : ℕ) (text : List ℕ) (h : form
 
 -- ---- a message without fault
 
-module _ (k : Kind) (about : About) (m : Collected) (sound : first_failing (form_checks (form_of k) about m) ≡ Sound) where
+module _ (k : Kind) (about : About) (m : Collected) (sound : first_failing (form_checks (form_of k) about m) ≡ Ok tt) where
   abbrev shared : ℕ → Bool
   shared n = member n (numbers_of (layout k))
 
@@ -80,7 +80,7 @@ module _ (k : Kind) (about : About) (m : Collected) (sound : first_failing (form
 
 -- ---- what a full reply knows of the message that it answers
 
-module _ (k : Kind) (about : About) (m : Collected) (sound : first_failing (form_checks (form_of k) about m) ≡ Sound) where
+module _ (k : Kind) (about : About) (m : Collected) (sound : first_failing (form_checks (form_of k) about m) ≡ Ok tt) where
   pub common : Common m.text
   unfolding member either
   common =
@@ -106,7 +106,7 @@ module _ (k : Kind) (about : About) (m : Collected) (sound : first_failing (form
 
 -- ---- an ESI: fields 13, 15 and 16 blank
 
-module _ (about : About) (m : Collected) (sound : first_failing (form_checks (form_of Esi) about m) ≡ Sound) where
+module _ (about : About) (m : Collected) (sound : first_failing (form_checks (form_of Esi) about m) ≡ Ok tt) where
   own_esi : (n : ℕ) → member n (numbers_of (layout Esi)) ≡ true → obeys (own_rules Esi) n m.text ≡ true
   own_esi n t = (rules_of Esi about m sound n t).1
 
@@ -128,7 +128,7 @@ module _ (about : About) (m : Collected) (sound : first_failing (form_checks (fo
 
 -- ---- a SUO and its VAR: field 13 S or A, 15 and 16 hex digits
 
-module _ (about : About) (m : Collected) (sound : first_failing (form_checks (form_of Suo) about m) ≡ Sound) where
+module _ (about : About) (m : Collected) (sound : first_failing (form_checks (form_of Suo) about m) ≡ Ok tt) where
   suo_area : one_of (letters "S" ∷ letters "A" ∷ []) (field_text 130 m.text) ≡ true
   unfolding member either layout own_rules obeys both fails
   suo_area = left _ _ (rules_of Suo about m sound 130 refl).1
@@ -137,7 +137,7 @@ module _ (about : About) (m : Collected) (sound : first_failing (form_checks (fo
   unfolding member either layout hex_fields
   suo_once = hexes Suo about m sound 150 refl refl
 
-module _ (about : About) (m : Collected) (sound : first_failing (form_checks (form_of Var) about m) ≡ Sound) where
+module _ (about : About) (m : Collected) (sound : first_failing (form_checks (form_of Var) about m) ≡ Ok tt) where
   var_digest : all hex_digit (field_text 160 m.text) ≡ true
   unfolding member either layout hex_fields
   var_digest = hexes Var about m sound 160 refl refl
@@ -149,7 +149,7 @@ module _ (about : About) (m : Collected) (sound : first_failing (form_checks (fo
 -- ---- so the reply is of good form
 
 pub esi_facts : (a : Answering) (m : Collected) → Made a false → m.text ≡ a.message → m.text ≡ a.closing
-    → first_failing (form_checks (form_of Esi) Answered m) ≡ Sound → Facts ReplyEsi a
+    → first_failing (form_checks (form_of Esi) Answered m) ≡ Ok tt → Facts ReplyEsi a
 esi_facts a m d p q sound =
     record {
       made = d;
@@ -161,7 +161,7 @@ esi_facts a m d p q sound =
     }
 
 pub pte_facts : (a : Answering) (suo var : Collected) → Made a true → suo.text ≡ a.message → var.text ≡ a.closing
-    → first_failing (form_checks (form_of Suo) Answered suo) ≡ Sound → first_failing (form_checks (form_of Var) Closing var) ≡ Sound
+    → first_failing (form_checks (form_of Suo) Answered suo) ≡ Ok tt → first_failing (form_checks (form_of Var) Closing var) ≡ Ok tt
     → Facts Pte a
 pte_facts a suo var d p q s v =
     record {

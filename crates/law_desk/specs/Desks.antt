@@ -8,7 +8,7 @@ use Rattle.changeover.specs.Held.{held_key}
 use Rattle.table.specs.Table.{Table, sound_table, with_day}
 use Rattle.table.specs.Decode.{table_of}
 use Rattle.table.specs.Named.{named}
-use Rattle.message.specs.Order.{Check}
+use Rattle.message.specs.declared.Check.{Check}
 use Rattle.message.specs.Fields.{sender_of, transport_generation_of, working_generation_of}
 use Rattle.message.specs.declared.Collected.{Collected}
 use Rattle.message.specs.declared.Kind.TheVariants.{Esi, Suo, Var}

@@ -1,7 +1,7 @@
 -- What an accepted message passed and what it leaves: its stamp was neither held nor too old;
 -- then it is held, and all but the sender's record and the key maker's seed is as it was.
 -- Assumes nothing.
-use Rattle.std.specs.Prelude.{Some}
+use Rattle.std.specs.Prelude.{Some, Ok}
 use Prim.Native.Nat.{ℕ}
 use mathlib.Core.Path.{◌≡◌, refl, sym, ap, ◌∙◌, subst}
 use mathlib.Core.List.{List, ◌++◌}
@@ -19,7 +19,6 @@ use Rattle.table.proofs.Places.{same_place, with_named_at}
 use Rattle.table_calls.proofs.Laws.{Kept}
 use Rattle.message.specs.Fields.{sender_of, stamp_of}
 use Rattle.message.specs.declared.Kind.TheVariants.{Esi, Suo, Var}
-use Rattle.message.specs.declared.Fault.TheVariants.{Sound}
 use Rattle.message.proofs.Stamps.{stamp_date}
 use Rattle.message.specs.Order.{first_failing}
 use Rattle.message.specs.Rules.{form_of, form_checks}
@@ -49,7 +48,7 @@ pub record Took (t u : Table) (m : List ℕ) : Type 0 where
 
 -- ---- the stamp
 
-esi_stamps : (t : Table) (today : Date) (m : Collected) → first_failing (esi_checks t today m) ≡ Sound
+esi_stamps : (t : Table) (today : Date) (m : Collected) → first_failing (esi_checks t today m) ≡ Ok tt
     → NoneFails (stamp_checks t (named t (sender_of m.text)) today m.text)
 esi_stamps t today m e =
     let c = named t (sender_of m.text) in
@@ -60,7 +59,7 @@ esi_stamps t today m e =
     none_left (stamp_checks t c today m.text) l₃
     (none_right (party_checks t m.text) l₂ (none_right (form_checks (form_of Esi) Answered m) l₁ n))
 
-frame_stamps : (t : Table) (today : Date) (kind : ℕ) (f : Frame) → first_failing (frame_checks t today kind f) ≡ Sound
+frame_stamps : (t : Table) (today : Date) (kind : ℕ) (f : Frame) → first_failing (frame_checks t today kind f) ≡ Ok tt
     → NoneFails (stamp_checks t (named t (sender_of f.suo.text)) today f.suo.text)
 frame_stamps t today kind f e =
     let c = named t (sender_of f.suo.text) in
@@ -135,13 +134,13 @@ took t u o m closing once d l e a n k x =
     }
 
 pub esi_took : (t : Table) (o : Occasion) (m : Collected) → o.today.yymmdd ≡ t.day → length m.text ≡ 161
-    → first_failing (esi_checks t o.today m) ≡ Sound → Took t (esi_table t o m) m.text
+    → first_failing (esi_checks t o.today m) ≡ Ok tt → Took t (esi_table t o m) m.text
 esi_took t o m d l e =
     took t (esi_table t o m) o m.text m.text 0 d l (esi_is t o m e) (esi_accepted t o.today m e)
     (esi_stamps t o.today m e) (esi_marked t o m e) (esi_others t o m)
 
 pub frame_took : (t : Table) (o : Occasion) (f : Frame) → o.today.yymmdd ≡ t.day → length f.suo.text ≡ 161
-    → first_failing (frame_checks t o.today o.kind f) ≡ Sound → Took t (frame_table t o f) f.suo.text
+    → first_failing (frame_checks t o.today o.kind f) ≡ Ok tt → Took t (frame_table t o f) f.suo.text
 frame_took t o f d l e =
     took t (frame_table t o f) o f.suo.text f.var.text (key_or0 f.once) d l (frame_is t o f e)
     (frame_accepted t o.today o.kind f e) (frame_stamps t o.today o.kind f e) (frame_marked t o f e)

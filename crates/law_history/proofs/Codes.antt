@@ -11,9 +11,8 @@ use Rattle.ground.proofs.Lists.{all-member}
 use Rattle.calendar.specs.declared.Date.{Date}
 use Rattle.acceptance.proofs.Grants.{codes as granted, grant_code}
 use Rattle.table.specs.Table.{Table}
-use Rattle.message.specs.declared.Fault.TheVariants.{Found}
 use Rattle.message.specs.Layout.{layout}
-use Rattle.message.specs.Order.{first_failing}
+use Rattle.message.specs.Order.{first_failing, fault_at}
 use Rattle.message.proofs.Order.{each_check, first_each}
 use Rattle.message.specs.Rules.{each_field, form_checks}
 use Rattle.message.specs.declared.About.{About}
@@ -78,12 +77,12 @@ unfolding is_e each_check frame_checks form_checks each_field layout party_check
 frame_all_e t today kind f = refl
 
 pub esi_e : (t : Table) (today : Date) (m : Collected) (code field : ℕ) (about : About)
-    → first_failing (esi_checks t today m) ≡ Found code field about → is_accepted code ≡ false
+    → first_failing (esi_checks t today m) ≡ fault_at code field about → is_accepted code ≡ false
 unfolding is_e
 esi_e t today m code field about e = fails-true _ (first_each is_e (esi_checks t today m) code field about (esi_all_e t today m) e)
 
 pub frame_e : (t : Table) (today : Date) (kind : ℕ) (f : Frame) (code field : ℕ) (about : About)
-    → first_failing (frame_checks t today kind f) ≡ Found code field about → is_accepted code ≡ false
+    → first_failing (frame_checks t today kind f) ≡ fault_at code field about → is_accepted code ≡ false
 unfolding is_e
 frame_e t today kind f code field about e =
     fails-true _ (first_each is_e (frame_checks t today kind f) code field about (frame_all_e t today kind f) e)

@@ -1,5 +1,6 @@
 -- What a turn does to a table: without a reply with K nothing, and with one it took the message whose sender and stamp the reply repeats.
 -- Assumes nothing.
+use Rattle.std.specs.Prelude.{Err, Ok, Result}
 use Prim.Native.Nat.{ℕ, ◌<◌, ◌^◌}
 use mathlib.Core.Path.{◌≡◌, refl, sym, ap, ◌∙◌, subst}
 use mathlib.Core.List.{List}
@@ -16,8 +17,7 @@ use Rattle.table.specs.Decode.{table_of, is_table}
 use Rattle.table.proofs.Sound.{parts}
 use Rattle.table.proofs.Decode.{is_written, rewritten_is}
 use Rattle.message.specs.declared.Fault.{Fault}
-use Rattle.message.specs.declared.Fault.TheVariants.{Sound, Found}
-use Rattle.message.specs.Order.{first_failing}
+use Rattle.message.specs.Order.{first_failing, fault_at}
 use Rattle.message.specs.declared.About.{About}
 use Rattle.checks.specs.Checks.{esi_checks, frame_checks, key_or0}
 use Rattle.verdict.specs.Outcomes.{grant_to, outcome_of, esi_outcome, frame_outcome, esi_table, frame_table, esi_leaves, frame_leaves}
@@ -93,12 +93,12 @@ module _ (w : List ℕ) (e : is_table w ≡ true) where
         (λ e. record { bank = l.0; software = l.1; message = lm; closing = lc })
 
     granted_full : is_bare g.code ≡ false
-        → verdict_answer (table_of after) o pte (outcome_of Sound g made) m closing
-        ≡ full_answer (table_of after) o pte (outcome_of Sound g made) m closing
+        → verdict_answer (table_of after) o pte (outcome_of (Ok tt) g made) m closing
+        ≡ full_answer (table_of after) o pte (outcome_of (Ok tt) g made) m closing
     unfolding outcome_of
-    granted_full b = verdict_full (table_of after) o pte (outcome_of Sound g made) m closing b
+    granted_full b = verdict_full (table_of after) o pte (outcome_of (Ok tt) g made) m closing b
 
-    accepted_effect : {x : Answering} → x ≡ full_answer (table_of after) o pte (outcome_of Sound g made) m closing → is_accepted g.code
+    accepted_effect : {x : Answering} → x ≡ full_answer (table_of after) o pte (outcome_of (Ok tt) g made) m closing → is_accepted g.code
         ≡ true
         → Took (table_of w) (table_of after) m
         → Effect w (replies x u after)
@@ -109,18 +109,18 @@ module _ (w : List ℕ) (e : is_table w ≡ true) where
         (taken refl (record { bank = l.0; software = l.1; message = lm; closing = lc }) k refl is q)
 
     refused_effect : (c n : ℕ) (a : About) → after ≡ w → is_accepted c ≡ false
-        → Effect w (replies (verdict_answer (table_of after) o pte (outcome_of (Found c n a) g made) m closing) u after)
+        → Effect w (replies (verdict_answer (table_of after) o pte (outcome_of (fault_at c n a) g made) m closing) u after)
     unfolding replies outcome_of
     refused_effect c n a t e =
         refused refl (verdict_sized _)
-        (ap is_accepted (verdict_code (table_of after) o pte (outcome_of (Found c n a) g made) m closing) ∙ e)
+        (ap is_accepted (verdict_code (table_of after) o pte (outcome_of (fault_at c n a) g made) m closing) ∙ e)
         t
 
-    by_verdict : (f : Fault) → ((c n : ℕ) (a : About) → f ≡ Found c n a → (after ≡ w) × (is_accepted c ≡ false))
-        → (f ≡ Sound → Took (table_of w) (table_of after) m) → is_accepted g.code ≡ true → is_bare g.code ≡ false
+    by_verdict : (f : Result Unit Fault) → ((c n : ℕ) (a : About) → f ≡ fault_at c n a → (after ≡ w) × (is_accepted c ≡ false))
+        → (f ≡ Ok tt → Took (table_of w) (table_of after) m) → is_accepted g.code ≡ true → is_bare g.code ≡ false
         → Effect w (replies (verdict_answer (table_of after) o pte (outcome_of f g made) m closing) u after)
-    by_verdict Sound p q k b = accepted_effect (granted_full b) k (q refl)
-    by_verdict (Found c n a) p q k b = let r = p c n a refl in refused_effect c n a r.0 r.1
+    by_verdict (Ok _) p q k b = accepted_effect (granted_full b) k (q refl)
+    by_verdict (Err fault) p q k b = let r = p fault.code fault.field fault.about refl in refused_effect fault.code fault.field fault.about r.0 r.1
 
   module _ (s : Session) (d : s.opening.today.yymmdd ≡ (table_of w).day) where
     abbrev t : Table

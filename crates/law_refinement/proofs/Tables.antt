@@ -1,7 +1,7 @@
 -- A verdict leaves a table with as many holidays and customers,
 -- so writing it over the bytes of the one before is writing it over the first bytes.
 -- Assumes nothing.
-use Rattle.std.specs.Prelude.{None, Option, Some}
+use Rattle.std.specs.Prelude.{None, Option, Some, Err, Ok, Result}
 use Prim.Native.Nat.{ℕ, ◌<◌, ◌^◌}
 use mathlib.Core.Path.{◌≡◌, refl, sym, ap, ap₂, ◌∙◌}
 use mathlib.Core.Bool.{true}
@@ -18,7 +18,6 @@ use Rattle.table.proofs.Encode.{encode-length, sound_fit}
 use Rattle.table.proofs.Decode.{is_written, rewritten_is}
 use Rattle.table_calls.proofs.Rewritten.{written_twice}
 use Rattle.message.specs.declared.Fault.{Fault}
-use Rattle.message.specs.declared.Fault.TheVariants.{Sound, Found as FaultFound}
 use Rattle.checks.specs.Checks.{key_or0}
 use Rattle.verdict.specs.Outcomes.{table_after, table_by, esi_table, frame_table, esi_leaves, frame_leaves}
 use Rattle.message.specs.declared.Collected.{Collected}
@@ -49,10 +48,10 @@ sized_after : (t : Table) (o : Occasion) (m closing : List ℕ) (once : ℕ) →
 unfolding table_after with_named
 sized_after t o m closing once = sized_seed t _ _ (sized_at t _ _)
 
-sized_by : (f : Fault) (t u : Table) → Sized t u → Sized t (table_by f t u)
+sized_by : (f : Result Unit Fault) (t u : Table) → Sized t u → Sized t (table_by f t u)
 unfolding table_by
-sized_by Sound t u k = k
-sized_by (FaultFound c n a) t u k = sized_same t
+sized_by (Ok _) t u k = k
+sized_by (Err fault) t u k = sized_same t
 
 sized_esi : (t : Table) (o : Occasion) (m : Collected) → Sized t (esi_table t o m)
 unfolding esi_table

@@ -1,5 +1,6 @@
 -- What a message keeps, and what it says where it has no fault: the places are computed, and of a sound message every field passes.
 -- Assumes nothing.
+use Rattle.std.specs.Prelude.{Ok}
 use mathlib.Core.Path.{◌≡◌, refl, sym, ap, ◌∙◌, subst}
 use mathlib.Core.Bool.{Bool, true, false, false≢true}
 use mathlib.Core.List.{List, [], ◌∷◌, ◌++◌, map}
@@ -19,7 +20,8 @@ use Rattle.text.specs.Numbers.{digit_value, decimal, decimal_from, hex}
 use Rattle.text.proofs.Laws.{decimal-lt, hex-lt}
 use Rattle.calendar.specs.Dates.{real_date, real_time, is_real}
 use Rattle.message.specs.Layout.{Field, fields, total, offset_in, width_in, field_text, layout, bank_esi, pte}
-use Rattle.message.specs.Order.{Check, first_failing}
+use Rattle.message.specs.declared.Check.{Check}
+use Rattle.message.specs.Order.{first_failing}
 use Rattle.message.specs.Rules.{form_of, format_holds, one_of, methods, length_rules, common_rules, own_rules, obeys, value_holds, is_short}
 use Rattle.message.specs.Rules.{format_fails, value_fails, each_field, form_checks}
 use Rattle.message.specs.Fields.{stamp_of, date_of_stamp, transport_generation_of, working_generation_of, once_field_of}
@@ -30,7 +32,6 @@ use Rattle.message.specs.declared.Extent.{Extent}
 use Rattle.message.specs.declared.Extent.TheVariants.{Whole, TooShort, LengthNotDigits, OtherLength, CutShort}
 use Rattle.message.specs.declared.About.{About}
 use Rattle.message.specs.declared.Collected.{Collected}
-use Rattle.message.specs.declared.Fault.TheVariants.{Sound}
 use Rattle.message.proofs.Order.{NoneFails, accepted, none_left, none_right}
 use Rattle.message.proofs.Places.{narrow}
 use Rattle.message.proofs.Tests.{obeys-append}
@@ -89,7 +90,7 @@ none_broken code about broken (f ∷ fs) e n h =
     ⊎_elim (λ q. ap broken (sym (eqb-true f.number n q)) ∙ e.0) (λ q. none_broken code about broken fs e.1 n q)
     (either_cases (eqb f.number n) (member n (numbers_of fs)) h)
 
-module _ (k : Kind) (about : About) (m : Collected) (sound : first_failing (form_checks (form_of k) about m) ≡ Sound) where
+module _ (k : Kind) (about : About) (m : Collected) (sound : first_failing (form_checks (form_of k) about m) ≡ Ok tt) where
   -- the three parts of the checks of form
   abbrev short : List Check
   short = record { code = 1032; field = 0; about = about; failed = is_short m.extent } ∷ []
@@ -167,7 +168,7 @@ one_of_two a b text e =
     (λ p. ⊎_elim (λ q. inr (sym (same-eq b text q))) (λ q. inl cc) (either_cases (same b text) false p))
     (either_cases (same a text) _ e)
 
-pub sound_method : (about : About) (m : Collected) → first_failing (form_checks (form_of Suo) about m) ≡ Sound
+pub sound_method : (about : About) (m : Collected) → first_failing (form_checks (form_of Suo) about m) ≡ Ok tt
     → (field_text 70 m.text ≡ letters "SKH") ⊎ (field_text 70 m.text ≡ letters "SKE")
 unfolding member either layout methods common_rules obeys both fails
 sound_method about m e =
@@ -181,7 +182,7 @@ request_small text e =
     (λ p. ⊎_elim (λ q. rw q (lit≤ tt)) (λ q. rw q (lit≤ tt)) (one_of_two _ _ text p))
     (either_cases (same (letters "0") text) _ e)
 
-pub sound_request : (k : Kind) (about : About) (m : Collected) → first_failing (form_checks (form_of k) about m) ≡ Sound
+pub sound_request : (k : Kind) (about : About) (m : Collected) → first_failing (form_checks (form_of k) about m) ≡ Ok tt
     → (k ≡ Esi) ⊎ (k ≡ Var) → request_of m.text ≤ 2
 unfolding member either layout own_rules obeys both fails request_of
 sound_request Esi about m e w =
@@ -191,7 +192,7 @@ sound_request Suo about m e w =
 sound_request Var about m e w =
     request_small (field_text 180 m.text) (left _ _ (value_of Var 180 m.text (sound_field Var about m e 180 refl).1).1)
 
-pub sound_stamp : (k : Kind) (about : About) (m : Collected) → first_failing (form_checks (form_of k) about m) ≡ Sound
+pub sound_stamp : (k : Kind) (about : About) (m : Collected) → first_failing (form_checks (form_of k) about m) ≡ Ok tt
     → length m.text ≡ 161
     → (stamp_of m.text < 10 ^ 15) × (real_date (stamp_of m.text / 1000000000) ≡ true)
     × (real_time (stamp_of m.text / 1000 % 1000000) ≡ true)

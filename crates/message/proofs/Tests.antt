@@ -1,5 +1,6 @@
 -- The tests of fields: a rule asks only of the field that it names, and the first field that does not pass decides.
 -- Assumes nothing.
+use Rattle.std.specs.Prelude.{Ok, Result}
 use mathlib.Core.Path.{◌≡◌, refl, sym, ap, ◌∙◌}
 use mathlib.Core.Bool.{Bool, true, false}
 use mathlib.Core.List.{List, [], ◌∷◌, ◌++◌, map}
@@ -15,7 +16,7 @@ use Rattle.ground.proofs.Choices.{join, either_left, either_decides, picks, skip
 use Rattle.ground.proofs.Bools.{both_assoc, both_true}
 use Rattle.ground.specs.First.{first_that}
 use Rattle.message.specs.Layout.{Field, laid, no_field, fields, total, field_text, layout}
-use Rattle.message.specs.Order.{first_failing}
+use Rattle.message.specs.Order.{first_failing, fault_at}
 use Rattle.message.specs.Rules.{Rule, only, form_of, obeys, is_short, format_fails, value_fails, each_field, form_checks}
 use Rattle.message.specs.Passing.{passes_in, lowest_broken}
 use Rattle.message.specs.declared.Kind.{Kind}
@@ -24,7 +25,6 @@ use Rattle.message.specs.declared.Extent.{Extent}
 use Rattle.message.specs.declared.Extent.TheVariants.{Whole, TooShort, LengthNotDigits, OtherLength, CutShort}
 use Rattle.message.specs.declared.About.{About}
 use Rattle.message.specs.declared.Fault.{Fault}
-use Rattle.message.specs.declared.Fault.TheVariants.{Sound, Found}
 use Rattle.message.proofs.Places.{number_at, placed}
 use Rattle.message.proofs.Order.{first_sound, first_found}
 
@@ -105,12 +105,12 @@ same_field Var i h = get_or-take 22 fields i (laid no_field "" 0) h
 
 module _ (passes : ℕ → Bool) (code : ℕ) (about : About) where
   broken_cons : (f : Field) (fs : List Field) → lowest_broken code about passes (f ∷ fs)
-      ≡ pick (fails (passes f.number)) (Found code f.number about) (lowest_broken code about passes fs)
+      ≡ pick (fails (passes f.number)) (fault_at code f.number about) (lowest_broken code about passes fs)
   unfolding each_field first_failing first_that
   broken_cons f fs = refl
 
   next : (k : Kind) (i : ℕ) → i < length (layout k) → lowest_broken code about passes (drop i (layout k))
-      ≡ pick (fails (passes (number_at i))) (Found code (number_at i) about) (lowest_broken code about passes (drop (i + 1) (layout k)))
+      ≡ pick (fails (passes (number_at i))) (fault_at code (number_at i) about) (lowest_broken code about passes (drop (i + 1) (layout k)))
   next k i h =
       rw (add-one i, drop-cons (layout k) i (laid no_field "" 0) h, same_field k i h)
       (broken_cons (get_or fields i (laid no_field "" 0)) _)
@@ -126,16 +126,16 @@ module _ (passes : ℕ → Bool) (code : ℕ) (about : About) where
       within_layout : i < length (layout k)
       within_layout = rw e at h
 
-      pub stops : r ≡ false → Found code n about ≡ lowest_broken code about passes (layout k)
+      pub stops : r ≡ false → fault_at code n about ≡ lowest_broken code about passes (layout k)
       unfolding fails
       stops d =
-          ap (λ (x : ℕ). Found code x about) p ∙ sym (rest ∙ next k i within_layout ∙ picks _ _ _ (test false d))
+          ap (λ (x : ℕ). fault_at code x about) p ∙ sym (rest ∙ next k i within_layout ∙ picks _ _ _ (test false d))
 
       pub goes_on : r ≡ true → lowest_broken code about passes (layout k) ≡ lowest_broken code about passes (drop (i + 1) (layout k))
       unfolding fails
       goes_on d = rest ∙ next k i within_layout ∙ skips _ _ _ (test true d)
 
-    pub ends : count ≤ i → Sound ≡ lowest_broken code about passes (layout k)
+    pub ends : count ≤ i → (Ok tt) ≡ lowest_broken code about passes (layout k)
     unfolding each_field first_failing first_that
     ends h =
         sym (rest ∙ ap (λ (l : List Field). lowest_broken code about passes l) (drop_of_length-le (layout k) (rw e at h)))
@@ -165,15 +165,15 @@ module _ (k : Kind) (about : About) (over : Bool) (m : List ℕ) where
   unfolding form_checks is_short first_failing first_that pick
   whole = refl
 
-  module _ (first : Fault) (e : first ≡ lowest_broken 1010 about (passes_in false (form_of k) over m) (layout k)) where
+  module _ (first : Result Unit Fault) (e : first ≡ lowest_broken 1010 about (passes_in false (form_of k) over m) (layout k)) where
     -- a fault of the format comes first
-    pub by_format : (code field : ℕ) (of : About) → first ≡ Found code field of
-        → Found code field of ≡ first_failing (form_checks (form_of k) about (record { extent = Whole; blank = over; text = m }))
+    pub by_format : (code field : ℕ) (of : About) → first ≡ fault_at code field of
+        → fault_at code field of ≡ first_failing (form_checks (form_of k) about (record { extent = Whole; blank = over; text = m }))
     by_format code field of d =
         sym (whole ∙ first_found _ _ code field of (sym format_checks ∙ sym e ∙ d))
 
     -- where there is none, the values decide
-    pub by_values : (second : Fault) → first ≡ Sound
+    pub by_values : (second : Result Unit Fault) → first ≡ Ok tt
         → second ≡ lowest_broken 1011 about (passes_in true (form_of k) over m) (layout k)
         → second ≡ first_failing (form_checks (form_of k) about (record { extent = Whole; blank = over; text = m }))
     by_values second d q =
@@ -182,24 +182,24 @@ module _ (k : Kind) (about : About) (over : Bool) (m : List ℕ) where
 -- ---- a message of one record alone, or cut short
 
 module _ (about : About) (over : Bool) (m : List ℕ) where
-  abbrev formed : Kind → Extent → Fault
+  abbrev formed : Kind → Extent → Result Unit Fault
   formed k extent = first_failing (form_checks (form_of k) about (record { extent = extent; blank = over; text = m }))
 
-  pub too_short : (k : Kind) → Found 1032 0 about ≡ formed k TooShort
+  pub too_short : (k : Kind) → fault_at 1032 0 about ≡ formed k TooShort
   unfolding form_checks is_short first_failing first_that pick
   too_short k = refl
 
-  pub cut_short : (k : Kind) → Found 1032 0 about ≡ formed k CutShort
+  pub cut_short : (k : Kind) → fault_at 1032 0 about ≡ formed k CutShort
   unfolding form_checks is_short first_failing first_that pick
   cut_short k = refl
 
-  pub not_digits : (k : Kind) → Found 1010 20 about ≡ formed k LengthNotDigits
+  pub not_digits : (k : Kind) → fault_at 1010 20 about ≡ formed k LengthNotDigits
   unfolding form_checks is_short format_fails each_field layout first_failing first_that pick
   not_digits Esi = refl
   not_digits Suo = refl
   not_digits Var = refl
 
-  pub other_length : (k : Kind) → Found 1011 20 about ≡ formed k OtherLength
+  pub other_length : (k : Kind) → fault_at 1011 20 about ≡ formed k OtherLength
   unfolding form_checks is_short format_fails value_fails each_field layout first_failing first_that pick
   other_length Esi = refl
   other_length Suo = refl

@@ -1,18 +1,15 @@
 -- A list of checks in their order: the first failing one gives the code and names the field (document 01, 'Order of checks').
 -- Assumes nothing.
-use Rattle.std.specs.Prelude.{ℕ, Bool, List}
+use Rattle.std.specs.Prelude.{ℕ, Bool, List, Result, Ok, Err}
 use Rattle.ground.specs.First.{first_that}
 use Rattle.message.specs.declared.About.{About}
+use Rattle.message.specs.declared.Check.{Check}
 use Rattle.message.specs.declared.Fault.{Fault}
-use Rattle.message.specs.declared.Fault.TheVariants.{Sound, Found}
 
--- a check: its code, the field that it names (no_field where none), the message that the field is of, and whether it fails
-pub record Check : Type 0 where
-  pub code : ℕ
-  pub field : ℕ
-  pub about : About
-  pub failed : Bool
+-- a fault: the code, the field that it names and the message that the field is of
+abbrev pub fault_at : (code field : ℕ) → About → Result Unit Fault
+fault_at code field about = Err (record { code = code; field = field; about = about })
 
 -- the first failing check's code, field and message; none fails in a message that is accepted
-unfoldable pub first_failing : List Check → Fault
-first_failing cs = first_that (λ (c : Check). c.failed) (λ (c : Check). Found c.code c.field c.about) Sound cs
+unfoldable pub first_failing : List Check → Result Unit Fault
+first_failing cs = first_that (λ (c : Check). c.failed) (λ (c : Check). fault_at c.code c.field c.about) (Ok tt) cs

@@ -9,7 +9,7 @@ use Rattle.text.specs.Numbers.{decimal}
 use Rattle.text.specs.Letters.{letters}
 use Rattle.calendar.specs.Dates.{real_date, real_time}
 use Rattle.message.specs.Layout.{Field, field, subfield, no_field, whole_number, layout, layout_length, field_text}
-use Rattle.message.specs.Order.{Check}
+use Rattle.message.specs.declared.Check.{Check}
 use Rattle.message.specs.declared.Kind.{Kind}
 use Rattle.message.specs.declared.Kind.TheVariants.{Esi, Suo, Var}
 use Rattle.message.specs.declared.Extent.{Extent}

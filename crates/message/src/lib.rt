@@ -2,7 +2,7 @@
 
 #![tactic(auto)]
 
-ghost use Rattle.std.specs.Prelude.{◌≡◌, List, [], ◌∷◌, ℕ, ◌-◌, ◌<◌, ◌≤◌, min, length, take, get_or};
+ghost use Rattle.std.specs.Prelude.{◌≡◌, List, [], ◌∷◌, ℕ, ◌-◌, ◌<◌, ◌≤◌, min, length, take, get_or, find};
 ghost use Rattle.ground.specs.Lists.{all, member, part};
 ghost use Rattle.text.specs.Characters.{digit, hex_digit};
 ghost use Rattle.text.specs.Letters.{letters};
@@ -10,6 +10,7 @@ ghost use Rattle.message.specs.Layout.{laid, no_field, fields, total, width_in, 
 ghost use Rattle.message.specs.Contents.{contents_as, at_fault};
 ghost use Rattle.message.specs.Order.{first_failing};
 ghost use Rattle.message.specs.declared.Extent.TheVariants.{Whole};
+ghost use Rattle.message.specs.declared.About.TheVariants.{Answered};
 ghost use Rattle.message.specs.Rules.{hex_fields, only, one_of, methods, common_rules, own_rules, form_of, format_holds, obeys, value_holds};
 ghost use Rattle.message.specs.Rules.{is_exact, length_rules, form_checks};
 ghost use Rattle.message.specs.Passing.{passes_in, lowest_broken};
@@ -35,7 +36,7 @@ pub enum Extent {
 }
 
 // Which message a check is about: the one that is answered (an ESI, a frame's SUO), or the one that closes a frame (its VAR).
-#[derive(Clone, Copy)]
+#[derive(Clone, Copy, Debug, PartialEq, Eq)]
 pub enum About {
     Answered,
     Closing,
@@ -56,11 +57,64 @@ pub struct Contents {
     pub text: [u8; 17],
 }
 
-// No fault, or the code, the field (its number as specs/Layout.antt writes it, 0 where none is named) and the message that it is of.
-#[derive(Clone, Copy)]
-pub enum Fault {
-    Sound,
-    Found { code: u32, field: u32, about: About },
+/// What is wrong with a message: the code, the field (its number as specs/Layout.antt writes it, 0 where none is named) and the message that
+/// it is of.
+#[derive(Clone, Copy, Debug, PartialEq, Eq)]
+pub struct Fault {
+    pub code: u32,
+    pub field: u32,
+    pub about: About,
+}
+
+/// A check of a message: its code, the field that it names (0 where it names none), the message that the field is of, and whether it fails.
+#[derive(Clone, Copy, Debug, PartialEq, Eq)]
+pub struct Check {
+    pub code: u32,
+    pub field: u32,
+    pub about: About,
+    pub failed: bool,
+}
+
+impl Check {
+    /// A check of the message that is answered, which names no field.
+    pub fn new(code: u32, failed: bool) -> Check
+        ensures { result ≡ record { code = code; field = no_field; about = Answered; failed = failed } }
+    {
+        Check::of_field(code, 0, failed)
+    }
+
+    /// A check of the message that is answered, which names a field.
+    pub fn of_field(code: u32, field: u32, failed: bool) -> Check
+        ensures { result ≡ record { code = code; field = field; about = Answered; failed = failed } }
+    {
+        Check {
+            code,
+            field,
+            about: About::Answered,
+            failed,
+        }
+    }
+}
+
+// The first check that fails.
+fn first_of(checks: &[Check]) -> Option<Check>
+    ensures { result ≡ find (λ c. c.failed) checks.now }
+{
+    checks.iter().copied().find(|check| check.failed)
+}
+
+/// The fault of the first check that fails, in the order of the list.
+pub fn first_failing(checks: &[Check]) -> Result<(), Fault>
+    ensures { result ≡ first_failing checks.now }
+{
+    match first_of(checks) {
+        Some(check) => Err(Fault {
+            code: check.code,
+            field: check.field,
+            about: check.about,
+        }),
+        None => Ok(()),
+    }
 }
 
 // The fields' numbers, in their order.
@@ -294,7 +348,7 @@ fn passes(values: bool, k: Kind, exact: bool, blank_over: bool, number: u32, tex
 }
 
 // The lowest field that does not pass.
-fn first_broken(values: bool, code: u32, about: About, k: Kind, blank_over: bool, m: &[u8]) -> Fault
+fn first_broken(values: bool, code: u32, about: About, k: Kind, blank_over: bool, m: &[u8]) -> Result<(), Fault>
     ensures { result ≡ lowest_broken code about (passes_in values (form_of k) blank_over m.now) (layout k) }
 {
     let count = count_of(k);
@@ -303,54 +357,54 @@ fn first_broken(values: bool, code: u32, about: About, k: Kind, blank_over: bool
     while i < count {
         let number = number_of(i);
         if !passes(values, k, exact, blank_over, number, span(i, i + 1, m)) {
-            return Fault::Found {
+            return Err(Fault {
                 code,
                 field: number,
                 about,
-            };
+            });
         }
         i += 1;
     }
-    Fault::Sound
+    Ok(())
 }
 
 // The first fault of a message that was collected whole: of the format, else of the values.
-fn first_fault(k: Kind, about: About, blank_over: bool, m: &[u8]) -> Fault
+fn first_fault(k: Kind, about: About, blank_over: bool, m: &[u8]) -> Result<(), Fault>
     ensures { result ≡ first_failing (form_checks (form_of k) about (record { extent = Whole; blank = blank_over; text = m.now })) }
 {
     let format = first_broken(false, 1010, about, k, blank_over, m);
     match format {
-        Fault::Sound => first_broken(true, 1011, about, k, blank_over, m),
-        Fault::Found { code, field, about } => Fault::Found { code, field, about },
+        Ok(()) => first_broken(true, 1011, about, k, blank_over, m),
+        Err(fault) => Err(fault),
     }
 }
 
 // The first fault: of a message that is one record alone by what made it so.
-pub fn fault_of(k: Kind, about: About, extent: Extent, blank_over: bool, m: &[u8]) -> Fault
+pub fn fault_of(k: Kind, about: About, extent: Extent, blank_over: bool, m: &[u8]) -> Result<(), Fault>
     ensures { result ≡ first_failing (form_checks (form_of k) about (record { extent = extent; blank = blank_over; text = m.now })) }
 {
     match extent {
         Extent::Whole => first_fault(k, about, blank_over, m),
-        Extent::TooShort => Fault::Found {
+        Extent::TooShort => Err(Fault {
             code: 1032,
             field: 0,
             about,
-        },
-        Extent::LengthNotDigits => Fault::Found {
+        }),
+        Extent::LengthNotDigits => Err(Fault {
             code: 1010,
             field: 20,
             about,
-        },
-        Extent::OtherLength => Fault::Found {
+        }),
+        Extent::OtherLength => Err(Fault {
             code: 1011,
             field: 20,
             about,
-        },
-        Extent::CutShort => Fault::Found {
+        }),
+        Extent::CutShort => Err(Fault {
             code: 1032,
             field: 0,
             about,
-        },
+        }),
     }
 }
 

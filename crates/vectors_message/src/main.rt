@@ -86,11 +86,11 @@ fn extent_of(n: u32) -> Extent {
 // A line: the kind, what is put into which fields, and the fault.
 fn tell(k: Kind, extent: u32, blank_over: bool, m: [u8; 161]) {
     match message::fault_of(k, About::Answered, extent_of(extent), blank_over, &m) {
-        Fault::Sound => say(
+        Ok(()) => say(
             b"-> sound
 ",
         ),
-        Fault::Found { code, field, about } => {
+        Err(Fault { code, field, about }) => {
             let mut out = [0u8; 4];
             text::write_number(&mut out, code as u64);
             say(b"-> ");

@@ -57,12 +57,12 @@ fn var() -> [u8; 161] {
     put(m, 112, b"13131313131313130123456789ABCDEF")
 }
 
-fn show(f: message::Fault) {
+fn show(f: Result<(), message::Fault>) {
     match f {
-        message::Fault::Sound => {
+        Ok(()) => {
             io::write_all(1, b"sound\n");
         }
-        message::Fault::Found { code, field, about } => {
+        Err(message::Fault { code, field, about }) => {
             io::print_decimal(1, code as u64);
             io::write_all(1, b" ");
             io::print_decimal(1, field as u64);

@@ -1,6 +1,6 @@
 -- What the functions answer, from what the calls in them say: each is the definition with its parts replaced by their equals.
 -- Assumes nothing.
-use Rattle.std.specs.Prelude.{None, Option}
+use Rattle.std.specs.Prelude.{None, Option, Err, Ok, Result}
 use mathlib.Core.Path.{◌≡◌, refl, ap, ap₂, ◌∙◌}
 use mathlib.Core.Bool.{Bool}
 use mathlib.Core.List.{List}
@@ -20,8 +20,7 @@ use Rattle.message.specs.Fields.{sender_of, stamp_of, working_generation_of, req
 use Rattle.message.specs.declared.About.{About}
 use Rattle.message.specs.declared.About.TheVariants.{Answered}
 use Rattle.message.specs.declared.Fault.{Fault}
-use Rattle.message.specs.declared.Fault.TheVariants.{Sound, Found as FaultFound}
-use Rattle.message.specs.Order.{first_failing}
+use Rattle.message.specs.Order.{first_failing, fault_at}
 use Rattle.checks.specs.Checks.{esi_checks, frame_checks, key_or0}
 use Rattle.verdict.specs.Outcomes.{grant_to, record_after, outcome_of, is_sound, stored_at, bytes_after, bytes_by, esi_outcome, esi_leaves}
 use Rattle.verdict.specs.Outcomes.{frame_outcome, frame_leaves}
@@ -48,46 +47,46 @@ stored_after b o m closing once g c f b₁ b₂ e p q h k = k ∙ rw (h, q, p, e
 
 -- ---- the answer
 
-pub accepted_outcome : (f : Fault) (g : Granted) (made k : ℕ) → f ≡ Sound → k ≡ clock_value made g.made
+pub accepted_outcome : (f : Result Unit Fault) (g : Granted) (made k : ℕ) → f ≡ Ok tt → k ≡ clock_value made g.made
     → ◌≡◌ {A = Outcome} (record { code = g.code; field = 0; about = Answered; enclosed = g.enclosed; made = k }) (outcome_of f g made)
 unfolding outcome_of clock_value
 accepted_outcome f g made k e q = rw (q, e)
 
-pub refused_outcome : (f : Fault) (code field : ℕ) (about : About) (g : Granted) (made : ℕ) → f ≡ FaultFound code field about
+pub refused_outcome : (f : Result Unit Fault) (code field : ℕ) (about : About) (g : Granted) (made : ℕ) → f ≡ fault_at code field about
     → ◌≡◌ {A = Outcome} (record { code = code; field = field; about = about; enclosed = None; made = made }) (outcome_of f g made)
 unfolding outcome_of
 refused_outcome f code field about g made e = rw e
 
 -- what is stored where no check failed is what the verdict leaves
-stored_by : (f : Fault) (b y : List ℕ) → pick (is_sound f) y b ≡ bytes_by f b y
+stored_by : (f : Result Unit Fault) (b y : List ℕ) → pick (is_sound f) y b ≡ bytes_by f b y
 unfolding bytes_by is_sound pick
-stored_by Sound b y = refl
-stored_by (FaultFound code field about) b y = refl
+stored_by (Ok _) b y = refl
+stored_by (Err fault) b y = refl
 
-pub concluded : (f : Fault) (made : ℕ) (b x y : List ℕ) (g h : Granted) (s : Bool) (r : Outcome) → s ≡ is_sound f
+pub concluded : (f : Result Unit Fault) (made : ℕ) (b x y : List ℕ) (g h : Granted) (s : Bool) (r : Outcome) → s ≡ is_sound f
     → (g ≡ h) × (x ≡ pick s y b) → r ≡ outcome_of f g made → (r ≡ outcome_of f h made) × (x ≡ bytes_by f b y)
 concluded f made b x y g h s r e a p = (
   p ∙ ap (λ (v : Granted). outcome_of f v made) a.0,
   a.1 ∙ ap (λ (t : Bool). pick t y b) e ∙ stored_by f b y,
 )
 
-pub esi_judged : (b : List ℕ) (o : Occasion) (m : Collected) (f : Fault) (r : Outcome) (x : List ℕ)
+pub esi_judged : (b : List ℕ) (o : Occasion) (m : Collected) (f : Result Unit Fault) (r : Outcome) (x : List ℕ)
     → f ≡ first_failing (esi_checks (table_of b) o.today m)
     → (r ≡ outcome_of f (grant_to (table_of b) o m.text m.text) o.made) × (x ≡ bytes_by f b (bytes_after b o m.text m.text 0))
     → (r ≡ esi_outcome (table_of b) o m) × (x ≡ esi_leaves b o m)
 unfolding esi_outcome esi_leaves
 esi_judged b o m f r x e h = (
-  h.0 ∙ ap (λ (v : Fault). outcome_of v (grant_to (table_of b) o m.text m.text) o.made) e,
-  h.1 ∙ ap (λ (v : Fault). bytes_by v b (bytes_after b o m.text m.text 0)) e,
+  h.0 ∙ ap (λ (v : Result Unit Fault). outcome_of v (grant_to (table_of b) o m.text m.text) o.made) e,
+  h.1 ∙ ap (λ (v : Result Unit Fault). bytes_by v b (bytes_after b o m.text m.text 0)) e,
 )
 
-pub frame_judged : (b : List ℕ) (o : Occasion) (g : Frame) (k : ℕ) (f : Fault) (r : Outcome) (x : List ℕ) → k ≡ key_or0 g.once
+pub frame_judged : (b : List ℕ) (o : Occasion) (g : Frame) (k : ℕ) (f : Result Unit Fault) (r : Outcome) (x : List ℕ) → k ≡ key_or0 g.once
     → f ≡ first_failing (frame_checks (table_of b) o.today o.kind g)
     → (r ≡ outcome_of f (grant_to (table_of b) o g.suo.text g.var.text) o.made)
     × (x ≡ bytes_by f b (bytes_after b o g.suo.text g.var.text k))
     → (r ≡ frame_outcome (table_of b) o g) × (x ≡ frame_leaves b o g)
 unfolding frame_outcome frame_leaves
 frame_judged b o g k f r x q e h = (
-  h.0 ∙ ap (λ (v : Fault). outcome_of v (grant_to (table_of b) o g.suo.text g.var.text) o.made) e,
-  h.1 ∙ ap₂ (λ (v : Fault) (n : ℕ). bytes_by v b (bytes_after b o g.suo.text g.var.text n)) e q,
+  h.0 ∙ ap (λ (v : Result Unit Fault). outcome_of v (grant_to (table_of b) o g.suo.text g.var.text) o.made) e,
+  h.1 ∙ ap₂ (λ (v : Result Unit Fault) (n : ℕ). bytes_by v b (bytes_after b o g.suo.text g.var.text n)) e q,
 )

@@ -1,6 +1,6 @@
 -- What a verdict means: with E nothing changes; with K the sender's record holds the new stamp, and all that it must keep stays.
 -- Assumes nothing.
-use Rattle.std.specs.Prelude.{None, Option, Some}
+use Rattle.std.specs.Prelude.{None, Option, Some, Err, Ok, Result}
 use mathlib.Core.Path.{◌≡◌, refl, sym, ap, ap₂, ◌∙◌, subst}
 use mathlib.Core.Bool.{true, false}
 use mathlib.Core.List.{List, ◌++◌}
@@ -20,7 +20,7 @@ use Rattle.table.specs.Table.{Table, place_of, customer_in, with_customer, with_
 use Rattle.table.specs.Named.{customer_at, replaced_at, named, with_named}
 use Rattle.table.specs.Decode.{table_of}
 use Rattle.table.proofs.Places.{others_stay, stored_is, same_place, found_is, named_at, with_named_at, seed_in, known_at}
-use Rattle.message.specs.Order.{first_failing}
+use Rattle.message.specs.Order.{first_failing, fault_at}
 use Rattle.message.specs.Rules.{form_of, form_checks}
 use Rattle.message.specs.Fields.{sender_of, stamp_of}
 use Rattle.message.specs.declared.About.{About}
@@ -28,7 +28,6 @@ use Rattle.message.specs.declared.About.TheVariants.{Answered, Closing}
 use Rattle.message.specs.declared.Kind.{Kind}
 use Rattle.message.specs.declared.Kind.TheVariants.{Esi, Suo, Var}
 use Rattle.message.specs.declared.Fault.{Fault}
-use Rattle.message.specs.declared.Fault.TheVariants.{Sound, Found as FaultFound}
 use Rattle.message.proofs.Laws.{sound_stamp}
 use Rattle.checks.specs.Checks.{party_checks, stamp_checks, room_checks, esi_key_checks, type_checks, pair_checks, key_checks, esi_checks}
 use Rattle.checks.specs.Checks.{frame_checks, key_or0}
@@ -42,31 +41,31 @@ use Rattle.checks.proofs.Parts.{esi_parts, frame_parts, esi_parts_lem, frame_par
 
 -- ---- with E nothing changes
 
-by_found : (f : Fault) (c n : ℕ) (a : About) (before after : Table) → f ≡ FaultFound c n a → table_by f before after ≡ before
+by_found : (f : Result Unit Fault) (c n : ℕ) (a : About) (before after : Table) → f ≡ fault_at c n a → table_by f before after ≡ before
 unfolding table_by
-by_found f c n a before after e = ap (λ (x : Fault). table_by x before after) e
+by_found f c n a before after e = ap (λ (x : Result Unit Fault). table_by x before after) e
 
-bytes_found : (f : Fault) (c n : ℕ) (a : About) (before after : List ℕ) → f ≡ FaultFound c n a → bytes_by f before after ≡ before
+bytes_found : (f : Result Unit Fault) (c n : ℕ) (a : About) (before after : List ℕ) → f ≡ fault_at c n a → bytes_by f before after ≡ before
 unfolding bytes_by
-bytes_found f c n a before after e = ap (λ (x : Fault). bytes_by x before after) e
+bytes_found f c n a before after e = ap (λ (x : Result Unit Fault). bytes_by x before after) e
 
 pub esi_e_changes_nothing : (t : Table) (o : Occasion) (m : Collected) (c n : ℕ) (a : About)
-    → first_failing (esi_checks t o.today m) ≡ FaultFound c n a → esi_table t o m ≡ t
+    → first_failing (esi_checks t o.today m) ≡ fault_at c n a → esi_table t o m ≡ t
 unfolding esi_table
 esi_e_changes_nothing t o m c n a e = by_found _ c n a _ _ e
 
 pub frame_e_changes_nothing : (t : Table) (o : Occasion) (f : Frame) (c n : ℕ) (a : About)
-    → first_failing (frame_checks t o.today o.kind f) ≡ FaultFound c n a → frame_table t o f ≡ t
+    → first_failing (frame_checks t o.today o.kind f) ≡ fault_at c n a → frame_table t o f ≡ t
 unfolding frame_table
 frame_e_changes_nothing t o f c n a e = by_found _ c n a _ _ e
 
 pub esi_e_leaves : (b : List ℕ) (o : Occasion) (m : Collected) (c n : ℕ) (a : About)
-    → first_failing (esi_checks (table_of b) o.today m) ≡ FaultFound c n a → esi_leaves b o m ≡ b
+    → first_failing (esi_checks (table_of b) o.today m) ≡ fault_at c n a → esi_leaves b o m ≡ b
 unfolding esi_leaves
 esi_e_leaves b o m c n a e = bytes_found _ c n a _ _ e
 
 pub frame_e_leaves : (b : List ℕ) (o : Occasion) (f : Frame) (c n : ℕ) (a : About)
-    → first_failing (frame_checks (table_of b) o.today o.kind f) ≡ FaultFound c n a → frame_leaves b o f ≡ b
+    → first_failing (frame_checks (table_of b) o.today o.kind f) ≡ fault_at c n a → frame_leaves b o f ≡ b
 unfolding frame_leaves
 frame_e_leaves b o f c n a e = bytes_found _ c n a _ _ e
 
@@ -134,7 +133,7 @@ given k t today m f p r =
     let i = party_known t m.text p in
     record { place = i.0; known = i.1; room = room_left t _ today r; real = form_real k Answered m f }
 
-pub esi_accepted : (t : Table) (today : Date) (m : Collected) → first_failing (esi_checks t today m) ≡ Sound → Accepted t today m.text
+pub esi_accepted : (t : Table) (today : Date) (m : Collected) → first_failing (esi_checks t today m) ≡ Ok tt → Accepted t today m.text
 esi_accepted t today m e =
     let c = named t (sender_of m.text) in
     let l₃ = esi_key_checks c m.text ++ room_checks t c today in
@@ -148,7 +147,7 @@ esi_accepted t today m e =
     (none_right (esi_key_checks c m.text) (room_checks t c today) k)
 
 -- and of a frame also that its one-time key has passed
-pub frame_passed : (t : Table) (today : Date) (kind : ℕ) (f : Frame) → first_failing (frame_checks t today kind f) ≡ Sound
+pub frame_passed : (t : Table) (today : Date) (kind : ℕ) (f : Frame) → first_failing (frame_checks t today kind f) ≡ Ok tt
     → Accepted t today f.suo.text × NoneFails (key_checks t (named t (sender_of f.suo.text)) today f)
 frame_passed t today kind f e =
     let c = named t (sender_of f.suo.text) in
@@ -169,7 +168,7 @@ frame_passed t today kind f e =
       none_left (key_checks t c today f) (room_checks t c today) k,
     )
 
-pub frame_accepted : (t : Table) (today : Date) (kind : ℕ) (f : Frame) → first_failing (frame_checks t today kind f) ≡ Sound
+pub frame_accepted : (t : Table) (today : Date) (kind : ℕ) (f : Frame) → first_failing (frame_checks t today kind f) ≡ Ok tt
     → Accepted t today f.suo.text
 frame_accepted t today kind f e = (frame_passed t today kind f e).0
 
@@ -251,48 +250,48 @@ after_marked t u o m closing once a e =
       keeps = after_keeps t o m closing once a;
     })
 
-by_sound : (f : Fault) (before after : Table) → f ≡ Sound → table_by f before after ≡ after
+by_sound : (f : Result Unit Fault) (before after : Table) → f ≡ Ok tt → table_by f before after ≡ after
 unfolding table_by
-by_sound f before after e = ap (λ (x : Fault). table_by x before after) e
+by_sound f before after e = ap (λ (x : Result Unit Fault). table_by x before after) e
 
-pub esi_is : (t : Table) (o : Occasion) (m : Collected) → first_failing (esi_checks t o.today m) ≡ Sound
+pub esi_is : (t : Table) (o : Occasion) (m : Collected) → first_failing (esi_checks t o.today m) ≡ Ok tt
     → esi_table t o m ≡ table_after t o m.text m.text 0
 unfolding esi_table
 esi_is t o m e = by_sound _ _ _ e
 
-pub frame_is : (t : Table) (o : Occasion) (f : Frame) → first_failing (frame_checks t o.today o.kind f) ≡ Sound
+pub frame_is : (t : Table) (o : Occasion) (f : Frame) → first_failing (frame_checks t o.today o.kind f) ≡ Ok tt
     → frame_table t o f ≡ table_after t o f.suo.text f.var.text (key_or0 f.once)
 unfolding frame_table
 frame_is t o f e = by_sound _ _ _ e
 
 -- after an accepted ESI the sender's record is marked by its stamp
-pub esi_marked : (t : Table) (o : Occasion) (m : Collected) → first_failing (esi_checks t o.today m) ≡ Sound
+pub esi_marked : (t : Table) (o : Occasion) (m : Collected) → first_failing (esi_checks t o.today m) ≡ Ok tt
     → Marked t (esi_table t o m) o.today m.text
 esi_marked t o m e =
     after_marked t (esi_table t o m) o m.text m.text 0 (esi_accepted t o.today m e) (esi_is t o m e)
 
 -- and after an accepted frame
-pub frame_marked : (t : Table) (o : Occasion) (f : Frame) → first_failing (frame_checks t o.today o.kind f) ≡ Sound
+pub frame_marked : (t : Table) (o : Occasion) (f : Frame) → first_failing (frame_checks t o.today o.kind f) ≡ Ok tt
     → Marked t (frame_table t o f) o.today f.suo.text
 frame_marked t o f e =
     after_marked t (frame_table t o f) o f.suo.text f.var.text (key_or0 f.once)
     (frame_accepted t o.today o.kind f e) (frame_is t o f e)
 
 -- after acceptance the record holds the new stamp
-pub esi_stamp : (t : Table) (o : Occasion) (m : Collected) → first_failing (esi_checks t o.today m) ≡ Sound
+pub esi_stamp : (t : Table) (o : Occasion) (m : Collected) → first_failing (esi_checks t o.today m) ≡ Ok tt
     → holds_stamp (named (esi_table t o m) (sender_of m.text)) (stamp_of m.text) ≡ true
 esi_stamp t o m e = (esi_marked t o m e).new
 
-pub frame_stamp : (t : Table) (o : Occasion) (f : Frame) → first_failing (frame_checks t o.today o.kind f) ≡ Sound
+pub frame_stamp : (t : Table) (o : Occasion) (f : Frame) → first_failing (frame_checks t o.today o.kind f) ≡ Ok tt
     → holds_stamp (named (frame_table t o f) (sender_of f.suo.text)) (stamp_of f.suo.text) ≡ true
 frame_stamp t o f e = (frame_marked t o f e).new
 
 -- ---- every other customer is as before, whatever the verdict
 
-by_others : (f : Fault) (t u : Table) (j : ℕ) → customer_in u j ≡ customer_in t j → customer_in (table_by f t u) j ≡ customer_in t j
+by_others : (f : Result Unit Fault) (t u : Table) (j : ℕ) → customer_in u j ≡ customer_in t j → customer_in (table_by f t u) j ≡ customer_in t j
 unfolding table_by
-by_others Sound t u j e = e
-by_others (FaultFound c n a) t u j e = refl
+by_others (Ok _) t u j e = e
+by_others (Err fault) t u j e = refl
 
 pub esi_others : (t : Table) (o : Occasion) (m : Collected) (j : ℕ) → (place_of t (sender_of m.text) ≡ Some j → ⊥)
     → customer_in (esi_table t o m) j ≡ customer_in t j

@@ -1,6 +1,6 @@
 -- What a verdict leaves in the bytes that a table is written as: the table afterwards, which is sound.
 -- Assumes nothing.
-use Rattle.std.specs.Prelude.{Option}
+use Rattle.std.specs.Prelude.{Option, Err, Ok, Result}
 use mathlib.Core.Path.{◌≡◌, refl, sym, ap, ◌∙◌}
 use mathlib.Core.Bool.{Bool, true, false}
 use mathlib.Core.List.{List, [], ◌∷◌, ◌++◌}
@@ -31,7 +31,6 @@ use Rattle.table.proofs.Decode.{is_written, rewritten_is}
 use Rattle.table.proofs.Stores.{store_is, seed_is}
 use Rattle.message.specs.Fields.{sender_of}
 use Rattle.message.specs.declared.Fault.{Fault}
-use Rattle.message.specs.declared.Fault.TheVariants.{Sound, Found as FaultFound}
 use Rattle.message.specs.Order.{first_failing}
 use Rattle.message.proofs.Order.{NoneFails}
 use Rattle.checks.specs.Checks.{key_or0, key_checks, frame_checks}
@@ -165,12 +164,12 @@ module _ (b : List ℕ) (e : is_table b ≡ true) (o : Occasion) (m closing : Li
 
 -- ---- whatever the verdict
 
-by_fault : (f : Fault) (b : List ℕ) (x : List ℕ) (u : Table) → is_table b ≡ true
-    → (f ≡ Sound → (x ≡ written b u) × (sound_table u ≡ true))
+by_fault : (f : Result Unit Fault) (b : List ℕ) (x : List ℕ) (u : Table) → is_table b ≡ true
+    → (f ≡ Ok tt → (x ≡ written b u) × (sound_table u ≡ true))
     → (bytes_by f b x ≡ written b (table_by f (table_of b) u)) × (sound_table (table_by f (table_of b) u) ≡ true)
 unfolding bytes_by table_by
-by_fault Sound b x u e h = h refl
-by_fault (FaultFound c n a) b x u e h = (sym (written_same b e), (is_written b e).sound)
+by_fault (Ok _) b x u e h = h refl
+by_fault (Err fault) b x u e h = (sym (written_same b e), (is_written b e).sound)
 
 none_once : sound_once 0 ≡ true
 unfolding sound_once either
@@ -185,7 +184,7 @@ keys_odd : (t : Table) (c : Customer) (today : Date) (f : Frame) → NoneFails (
 unfolding key_checks
 keys_odd t c today f n = once_odd _ (key_or0 f.once) refl n.1.1.1.0
 
-frame_odd : (t : Table) (today : Date) (kind : ℕ) (f : Frame) → first_failing (frame_checks t today kind f) ≡ Sound
+frame_odd : (t : Table) (today : Date) (kind : ℕ) (f : Frame) → first_failing (frame_checks t today kind f) ≡ Ok tt
     → sound_once (key_or0 f.once)
     ≡ true
 frame_odd t today kind f e = keys_odd t (named t (sender_of f.suo.text)) today f (frame_passed t today kind f e).1

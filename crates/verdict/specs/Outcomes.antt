@@ -1,6 +1,6 @@
 -- What a verdict answers and leaves: with E nothing changes; with K the stamp is marked used, and keys go as the request says.
 -- Assumes nothing.
-use Rattle.std.specs.Prelude.{ℕ, ◌+◌, ◌%◌, ◌^◌, Bool, true, false, List, None, Option, Some}
+use Rattle.std.specs.Prelude.{ℕ, ◌+◌, ◌%◌, ◌^◌, Bool, true, false, List, None, Option, Some, Err, Ok, Result}
 use Rattle.keys.specs.Maker.{clock_value}
 use Rattle.customer.specs.declared.Customer.{Customer}
 use Rattle.acceptance.specs.Stamps.{with_stamp}
@@ -13,7 +13,6 @@ use Rattle.table.specs.Stored.{customer_stored, seed_stored}
 use Rattle.message.specs.Layout.{no_field}
 use Rattle.message.specs.Fields.{sender_of, stamp_of, working_generation_of, request_of}
 use Rattle.message.specs.declared.Fault.{Fault}
-use Rattle.message.specs.declared.Fault.TheVariants.{Sound, Found as FaultFound}
 use Rattle.message.specs.Order.{first_failing}
 use Rattle.message.specs.declared.About.TheVariants.{Answered}
 use Rattle.checks.specs.Checks.{esi_checks, frame_checks, key_or0}
@@ -43,21 +42,21 @@ table_after t o m closing once =
 
 -- ---- the answer; the count of keys is carried round as the clock value is
 
-unfoldable pub outcome_of : Fault → Granted → (made : ℕ) → Outcome
-outcome_of Sound g made =
+unfoldable pub outcome_of : Result Unit Fault → Granted → (made : ℕ) → Outcome
+outcome_of (Ok _) g made =
     record { code = g.code; field = no_field; about = Answered; enclosed = g.enclosed; made = (made + g.made) % 2 ^ 64 }
-outcome_of (FaultFound code field about) g made =
-    record { code = code; field = field; about = about; enclosed = None; made = made }
+outcome_of (Err fault) g made =
+    record { code = fault.code; field = fault.field; about = fault.about; enclosed = None; made = made }
 
 -- no check failed
-unfoldable pub is_sound : Fault → Bool
-is_sound Sound = true
-is_sound (FaultFound code field about) = false
+unfoldable pub is_sound : Result Unit Fault → Bool
+is_sound (Ok _) = true
+is_sound (Err fault) = false
 
 -- with E the table stays as it was
-unfoldable pub table_by : Fault → (before after : Table) → Table
-table_by Sound before after = after
-table_by (FaultFound code field about) before after = before
+unfoldable pub table_by : Result Unit Fault → (before after : Table) → Table
+table_by (Ok _) before after = after
+table_by (Err fault) before after = before
 
 -- an ESI
 unfoldable pub esi_outcome : Table → Occasion → Collected → Outcome
@@ -89,9 +88,9 @@ bytes_after b o m closing once =
     seed_stored (stored_at b (place_of (table_of b) (sender_of m)) (record_after (table_of b) o m closing once))
     (grant_to (table_of b) o m closing).seed
 
-unfoldable pub bytes_by : Fault → (before after : List ℕ) → List ℕ
-bytes_by Sound before after = after
-bytes_by (FaultFound code field about) before after = before
+unfoldable pub bytes_by : Result Unit Fault → (before after : List ℕ) → List ℕ
+bytes_by (Ok _) before after = after
+bytes_by (Err fault) before after = before
 
 unfoldable pub esi_leaves : List ℕ → Occasion → Collected → List ℕ
 esi_leaves b o m =

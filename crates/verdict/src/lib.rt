@@ -67,12 +67,12 @@ fn store_record(t: &mut [u8], place: Option<usize>, c: customer::Customer)
 }
 
 // Whether no check failed.
-pub fn is_sound(fault: message::Fault) -> bool
+pub fn is_sound(fault: Result<(), message::Fault>) -> bool
     ensures { result ≡ is_sound fault }
 {
     match fault {
-        message::Fault::Sound => true,
-        message::Fault::Found { code, field, about } => false,
+        Ok(()) => true,
+        Err(message::Fault { code, field, about }) => false,
     }
 }
 
@@ -102,11 +102,11 @@ fn accept(
 }
 
 // The answer by a verdict: where it is no fault, what was granted.
-fn answer_by(fault: message::Fault, g: acceptance::Granted, made: u64) -> Outcome
+fn answer_by(fault: Result<(), message::Fault>, g: acceptance::Granted, made: u64) -> Outcome
     ensures { result ≡ outcome_of fault g made }
 {
     match fault {
-        message::Fault::Sound => {
+        Ok(()) => {
             let enclosed = g.enclosed;
             Outcome {
                 code: g.code,
@@ -116,7 +116,7 @@ fn answer_by(fault: message::Fault, g: acceptance::Granted, made: u64) -> Outcom
                 made: keys::clock_value(made, g.made as u64),
             }
         }
-        message::Fault::Found { code, field, about } => Outcome {
+        Err(message::Fault { code, field, about }) => Outcome {
             code,
             field,
             about,
@@ -129,7 +129,7 @@ fn answer_by(fault: message::Fault, g: acceptance::Granted, made: u64) -> Outcom
 // The answer by a verdict, and what it changes.
 fn conclude(
     t: &mut [u8],
-    fault: message::Fault,
+    fault: Result<(), message::Fault>,
     o: checks::Occasion,
     m: [u8; 161],
     closing: [u8; 161],

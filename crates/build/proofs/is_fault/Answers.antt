@@ -3,10 +3,10 @@ use Rattle.ground.specs.Choice.{fails}
 use Rattle.verdict.specs.Outcomes.{is_sound}
 use Rattle.build.proofs.is_fault.Goals as goal
 
-pub returns-in-Sound : goal.returns-in-Sound
+pub returns-in-Ok : goal.returns-in-Ok
 unfolding fails is_sound
-returns-in-Sound c = rw c.in-Sound.is
+returns-in-Ok c = rw c.in-Ok.is
 
-pub returns-in-Found : goal.returns-in-Found
+pub returns-in-Err : goal.returns-in-Err
 unfolding fails is_sound
-returns-in-Found c = rw c.in-Found.is
+returns-in-Err c = rw c.in-Err.is

@@ -6,10 +6,10 @@ use Rattle.checks.proofs.customer_of.Goals as goal
 
 pub returns-in-Some : goal.returns-in-Some
 returns-in-Some c =
-    found_at _ _ _ _ (c.find-place.ensures ∙ ap (place_of _) c.sender.ensures) _ c.in-Some.is
+    found_at _ _ _ _ (c.find.ensures ∙ ap (place_of _) c.sender.ensures) _ c.in-Some.is
     c.load.ensures
 
 pub returns-in-None : goal.returns-in-None
 returns-in-None c =
-    found_none _ _ _ _ (c.find-place.ensures ∙ ap (place_of _) c.sender.ensures) _ c.in-None.is
+    found_none _ _ _ _ (c.find.ensures ∙ ap (place_of _) c.sender.ensures) _ c.in-None.is
     c.customer_count.ensures c.load-in-None.ensures

@@ -2,10 +2,10 @@
 use Rattle.desk.specs.Desk.{finding_of}
 use Rattle.desk.proofs.finding_of.Goals as goal
 
-pub returns-in-Sound : goal.returns-in-Sound
+pub returns-in-Ok : goal.returns-in-Ok
 unfolding finding_of
-returns-in-Sound c = rw c.in-Sound.is
+returns-in-Ok c = rw c.in-Ok.is
 
-pub returns-in-Found : goal.returns-in-Found
+pub returns-in-Err : goal.returns-in-Err
 unfolding finding_of
-returns-in-Found c = rw c.in-Found.is
+returns-in-Err c = rw c.in-Err.is

@@ -6,14 +6,14 @@ use Rattle.desk_form.proofs.fault_of.Goals as goal
 pub returns-then-r-size_of : goal.returns-then-r-size_of
 returns-then-r-size_of c = too_short _ _ _ c.size_of.ensures c.if-r-size_of.true
 
-pub returns-in-Sound : goal.returns-in-Sound
+pub returns-in-Ok : goal.returns-in-Ok
 unfolding pick
-returns-in-Sound c =
+returns-in-Ok c =
     by_values _ _ _ c.size_of.ensures c.if-r-size_of.false _ c.first_broken-format.ensures _
-    c.in-Sound.is c.first_broken.ensures
+    c.in-Ok.is c.first_broken.ensures
 
-pub returns-in-Found : goal.returns-in-Found
+pub returns-in-Err : goal.returns-in-Err
 unfolding pick
-returns-in-Found c =
+returns-in-Err c =
     by_format _ _ _ c.size_of.ensures c.if-r-size_of.false _ c.first_broken-format.ensures _ _ _
-    c.in-Found.is
+    c.in-Err.is

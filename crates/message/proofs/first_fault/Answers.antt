@@ -2,9 +2,9 @@
 use Rattle.message.proofs.Tests.{by_format, by_values}
 use Rattle.message.proofs.first_fault.Goals as goal
 
-pub returns-in-Sound : goal.returns-in-Sound
-returns-in-Sound c =
-    by_values _ _ _ _ _ c.first_broken-format.ensures _ c.in-Sound.is c.first_broken.ensures
+pub returns-in-Ok : goal.returns-in-Ok
+returns-in-Ok c =
+    by_values _ _ _ _ _ c.first_broken-format.ensures _ c.in-Ok.is c.first_broken.ensures
 
-pub returns-in-Found : goal.returns-in-Found
-returns-in-Found c = by_format _ _ _ _ _ c.first_broken-format.ensures _ _ _ c.in-Found.is
+pub returns-in-Err : goal.returns-in-Err
+returns-in-Err c = by_format _ _ _ _ _ c.first_broken-format.ensures _ _ _ c.in-Err.is

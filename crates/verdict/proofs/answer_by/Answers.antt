@@ -2,8 +2,8 @@
 use Rattle.verdict.proofs.Judged.{accepted_outcome, refused_outcome}
 use Rattle.verdict.proofs.answer_by.Goals as goal
 
-pub returns-in-Sound : goal.returns-in-Sound
-returns-in-Sound c = accepted_outcome _ _ _ _ c.in-Sound.is c.clock_value.ensures
+pub returns-in-Ok : goal.returns-in-Ok
+returns-in-Ok c = accepted_outcome _ _ _ _ c.in-Ok.is c.clock_value.ensures
 
-pub returns-in-Found : goal.returns-in-Found
-returns-in-Found c = refused_outcome _ _ _ _ _ _ c.in-Found.is
+pub returns-in-Err : goal.returns-in-Err
+returns-in-Err c = refused_outcome _ _ _ _ _ _ c.in-Err.is

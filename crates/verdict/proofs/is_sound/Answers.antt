@@ -2,10 +2,10 @@
 use Rattle.verdict.specs.Outcomes.{is_sound}
 use Rattle.verdict.proofs.is_sound.Goals as goal
 
-pub returns-in-Sound : goal.returns-in-Sound
+pub returns-in-Ok : goal.returns-in-Ok
 unfolding is_sound
-returns-in-Sound c = rw c.in-Sound.is
+returns-in-Ok c = rw c.in-Ok.is
 
-pub returns-in-Found : goal.returns-in-Found
+pub returns-in-Err : goal.returns-in-Err
 unfolding is_sound
-returns-in-Found c = rw c.in-Found.is
+returns-in-Err c = rw c.in-Err.is
