@@ -216,6 +216,7 @@ fn key_faults(holidays: &[u32], c: Customer, today: Date, f: Frame) -> Result<()
     let transport = message::transport_generation(m);
     let working = message::working_generation(m);
     let once = key_or_0(f.once);
+    let key = changeover::held(c.working, working);
     let digest = message::digest_field(closing);
     message::first_failing(&[
         Check::new(1013, is_key_refused(f.once, c.transport, transport, date)),
@@ -223,10 +224,7 @@ fn key_faults(holidays: &[u32], c: Customer, today: Date, f: Frame) -> Result<()
         Check::new(1017, acceptance::is_once_used(c, today, holidays, once)),
         Check::new(1031, !keys::has_odd_parity(once)),
         Check::new(1019, digest_differs(f.digest, digest)),
-        Check::new(
-            1020,
-            checksum_differs(changeover::held(c.working, working), closing),
-        ),
+        Check::new(1020, checksum_differs(key, closing)),
     ])
 }
 

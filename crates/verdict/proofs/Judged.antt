@@ -52,23 +52,18 @@ pub accepted_outcome : (f : Result Unit Fault) (g : Granted) (made k : ℕ) → 
 unfolding outcome_of clock_value
 accepted_outcome f g made k e q = rw (q, e)
 
-pub refused_outcome : (f : Result Unit Fault) (code field : ℕ) (about : About) (g : Granted) (made : ℕ) → f ≡ fault_at code field about
-    → ◌≡◌ {A = Outcome} (record { code = code; field = field; about = about; enclosed = None; made = made }) (outcome_of f g made)
-unfolding outcome_of
-refused_outcome f code field about g made e = rw e
+-- the answer, and what is left, by the fault
+pub accepted_so : (f : Result Unit Fault) (made : ℕ) (b x y : List ℕ) (g : Granted) (r : Outcome) → f ≡ Ok tt
+    → (r ≡ outcome_of (Ok tt) g made) × (x ≡ y) → (r ≡ outcome_of f g made) × (x ≡ bytes_by f b y)
+unfolding bytes_by
+accepted_so f made b x y g r e p = rw e p
 
--- what is stored where no check failed is what the verdict leaves
-stored_by : (f : Result Unit Fault) (b y : List ℕ) → pick (is_sound f) y b ≡ bytes_by f b y
-unfolding bytes_by is_sound pick
-stored_by (Ok _) b y = refl
-stored_by (Err fault) b y = refl
-
-pub concluded : (f : Result Unit Fault) (made : ℕ) (b x y : List ℕ) (g h : Granted) (s : Bool) (r : Outcome) → s ≡ is_sound f
-    → (g ≡ h) × (x ≡ pick s y b) → r ≡ outcome_of f g made → (r ≡ outcome_of f h made) × (x ≡ bytes_by f b y)
-concluded f made b x y g h s r e a p = (
-  p ∙ ap (λ (v : Granted). outcome_of f v made) a.0,
-  a.1 ∙ ap (λ (t : Bool). pick t y b) e ∙ stored_by f b y,
-)
+pub refused_so : (f : Result Unit Fault) (code field : ℕ) (about : About) (g : Granted) (made : ℕ) (b y : List ℕ)
+    → f ≡ fault_at code field about
+    → (◌≡◌ {A = Outcome} (record { code = code; field = field; about = about; enclosed = None; made = made }) (outcome_of f g made))
+    × (b ≡ bytes_by f b y)
+unfolding outcome_of bytes_by
+refused_so f code field about g made b y e = rw e (refl, refl)
 
 pub esi_judged : (b : List ℕ) (o : Occasion) (m : Collected) (f : Result Unit Fault) (r : Outcome) (x : List ℕ)
     → f ≡ first_failing (esi_checks (table_of b) o.today m)

@@ -37,4 +37,4 @@ returns c t e =
     (more
     (made c.new-6.ensures
     (c.checksum_differs.ensures
-    ∙ ap (λ (k : Option ℕ). checksum_differs k a.f.var.text) (c.held.ensures ∙ ap (held_key a.c.working) g))) refl))))))
+    ∙ ap (λ (k : Option ℕ). checksum_differs k a.f.var.text) (c.held-key.ensures ∙ ap (held_key a.c.working) g))) refl))))))

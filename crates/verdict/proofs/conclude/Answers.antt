@@ -1,7 +1,9 @@
--- What is granted is stored where no check failed, and the answer says so.
-use Rattle.verdict.proofs.Judged.{concluded}
+-- The fault decides: what is granted is stored where there is none.
+use Rattle.verdict.proofs.Judged.{accepted_so, refused_so}
 use Rattle.verdict.proofs.conclude.Goals as goal
 
-pub returns : goal.returns
-returns c =
-    concluded _ _ _ _ _ _ _ _ _ c.is_sound-sound.ensures c.accept-g.ensures c.answer_by.ensures
+pub returns-in-Ok : goal.returns-in-Ok
+returns-in-Ok c = accepted_so _ _ _ _ _ _ _ c.in-Ok.is c.accept.ensures
+
+pub returns-in-Err : goal.returns-in-Err
+returns-in-Err c = refused_so _ _ _ _ _ _ _ _ c.in-Err.is

@@ -4,6 +4,6 @@ use Rattle.verdict.proofs.grant_to.Goals as goal
 
 pub returns : goal.returns
 returns c =
-    granted_as _ _ _ _ _ _ _ _ _ _ c.customer_of-c.ensures c.settings-settings.ensures
-    c.clock_value-clock.ensures c.working_generation-generation.ensures c.request.ensures
+    granted_as _ _ _ _ _ _ _ _ _ _ c.customer_of.ensures c.settings.ensures
+    c.clock_value.ensures c.working_generation.ensures c.request.ensures
     c.grant.ensures

@@ -1,11 +1,14 @@
 -- The fault tells.
+use Rattle.std.specs.Prelude.{Result, Ok, Err, is_ok}
+use mathlib.Core.Path.{◌≡◌, refl, ◌∙◌}
+use Rattle.message.specs.declared.Fault.{Fault}
 use Rattle.verdict.specs.Outcomes.{is_sound}
 use Rattle.verdict.proofs.is_sound.Goals as goal
 
-pub returns-in-Ok : goal.returns-in-Ok
+sound_so : (f : Result Unit Fault) → is_ok f ≡ is_sound f
 unfolding is_sound
-returns-in-Ok c = rw c.in-Ok.is
+sound_so (Ok _) = refl
+sound_so (Err fault) = refl
 
-pub returns-in-Err : goal.returns-in-Err
-unfolding is_sound
-returns-in-Err c = rw c.in-Err.is
+pub returns : goal.returns
+returns c = c.is_ok.ensures.value ∙ sound_so c.args.fault
