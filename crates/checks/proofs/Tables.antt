@@ -66,14 +66,3 @@ none_found true None e = refl
 none_found false None e = e
 none_found true (Some i) e = e
 none_found false (Some i) e = refl
-
--- the customer who is found, and nobody
-module _ (t : Table) (who : List ℕ) (f : Option ℕ) (r : Customer) (p : f ≡ place_of t who) where
-  pub found_at : (i : ℕ) → f ≡ Some i → r ≡ customer_in t i → r ≡ named t who
-  unfolding named customer_at
-  found_at i q e = e ∙ sym (ap (customer_at t) (sym p ∙ q))
-
-  pub found_none : (n : ℕ) → f ≡ None → n ≡ length t.customers → r ≡ customer_in t n → r ≡ named t who
-  unfolding named customer_at customer_in
-  found_none n q k e =
-      e ∙ get_or-eq_default t.customers nobody {n = n} (omega arith) ∙ sym (ap (customer_at t) (sym p ∙ q))

@@ -43,10 +43,7 @@ pub struct Occasion {
 pub fn customer_of(t: &[u8], m: [u8; 161]) -> Customer
     ensures { result ≡ named (table_of t.now) (sender_of m) }
 {
-    match table::find(t, message::sender(m)) {
-        Some(i) => table::load(t, i),
-        None => table::load(t, table::customer_count(t) as usize),
-    }
+    table::named(t, message::sender(m))
 }
 
 // Whether the same characters of two messages differ.

@@ -2,7 +2,7 @@
 -- Assumes nothing.
 use Rattle.std.specs.Prelude.{None, Option, Result}
 use mathlib.Core.Path.{◌≡◌, sym, ap, ap₂, ◌∙◌}
-use mathlib.Core.List.{List}
+use mathlib.Core.List.{List, ◌++◌, append_assoc}
 use Prim.Native.Nat.{ℕ}
 use borrow.Author.Tests.{eq-eqb, ne_eqb}
 use lib.Dec.{eqb}
@@ -10,7 +10,13 @@ use Rattle.ground.proofs.Choices.{picks, skips}
 use Rattle.keys.specs.Keys.{combined, working_key0, next_generation}
 use Rattle.message.specs.declared.Fault.{Fault}
 use Rattle.desk.specs.Held.{replaced, opened_desk, entered_desk, given_by}
-use Rattle.desk.specs.Desk.{with_enclosed, held_after, finding_of, letter_in, code_in, checked_by}
+use Rattle.message.specs.declared.Check.{Check}
+use Rattle.message.specs.Order.{first_failing}
+use Rattle.desk_form.specs.Replies.{reply_checks}
+use Rattle.desk_form.specs.declared.Reply.TheVariants.{Esi, Pte}
+use Rattle.desk.specs.declared.Sent.{Sent}
+use Rattle.desk.specs.Desk.{came_checks, receiver_checks, stamp_sent_checks, batch_sent_checks, reply_key_checks}
+use Rattle.desk.specs.Desk.{with_enclosed, desk_esi_checks, desk_pte_checks}
 use Rattle.desk.specs.declared.Keys.{Keys}
 use Rattle.desk.specs.declared.Held.{Held}
 use Rattle.desk.specs.declared.Parts.{Parts}
@@ -75,12 +81,25 @@ module _ (n m : ℕ) (served refusing d : Held) (p : n ≡ m) where
   unfolding given_by
   given_served z q = ap₂ given p (q ∙ sym (picks (eqb m 0) served refusing (eq-eqb m 0 (sym p ∙ z))))
 
--- ---- what is told of a reply
+-- ---- the two orders, part by part: lists joined from the left are the same lists joined from the right
 
-pub told_by : (h : Held) (r : List ℕ) (f : Result Unit Fault) (x : Finding) (d : Held) (l n : ℕ) → x ≡ finding_of f → d ≡ held_after h r f
-    → l ≡ letter_in r → n ≡ code_in r
-    → ◌≡◌ {A = Checked} (record { finding = x; held = d; letter = l; code = n }) (checked_by h r f)
-unfolding checked_by
-told_by h r f x d l n a b c e =
-    ap₂ (λ (y : Finding) (z : Held). record { finding = y; held = z; letter = l; code = n }) a b
-    ∙ ap₂ (λ (y z : ℕ). record { finding = finding_of f; held = held_after h r f; letter = y; code = z }) c e
+four : (a b c d : List Check) → ((a ++ b) ++ c) ++ d ≡ a ++ (b ++ (c ++ d))
+four a b c d = simp append_assoc
+
+five : (a b c d e : List Check) → (((a ++ b) ++ c) ++ d) ++ e ≡ a ++ (b ++ (c ++ (d ++ e)))
+five a b c d e = simp append_assoc
+
+pub esi_is : (h : Held) (s : Sent) (r : List ℕ) {y : Result Unit Fault}
+    → y ≡ first_failing (reply_checks Esi r ++ (receiver_checks h r ++ (stamp_sent_checks s r ++ reply_key_checks h s r)))
+    → y ≡ first_failing (desk_esi_checks h s r)
+unfolding desk_esi_checks
+esi_is h s r p =
+    p ∙ ap first_failing (sym (four (reply_checks Esi r) (receiver_checks h r) (stamp_sent_checks s r) (reply_key_checks h s r)))
+
+pub pte_is : (h : Held) (s : Sent) (r : List ℕ) {y : Result Unit Fault}
+    → y ≡ first_failing (came_checks r ++ (reply_checks Pte r ++ (receiver_checks h r ++ (batch_sent_checks s r ++ reply_key_checks h s r))))
+    → y ≡ first_failing (desk_pte_checks h s r)
+unfolding desk_pte_checks
+pte_is h s r p =
+    p ∙ ap first_failing
+    (sym (five (came_checks r) (reply_checks Pte r) (receiver_checks h r) (batch_sent_checks s r) (reply_key_checks h s r)))

@@ -24,7 +24,6 @@ use Rattle.desk.specs.declared.Keys.{Keys}
 use Rattle.desk.specs.declared.Held.{Held}
 use Rattle.desk.specs.declared.Sent.{Sent}
 use Rattle.desk.specs.declared.Finding.{Finding}
-use Rattle.desk.specs.declared.Finding.TheVariants.{Passes, Fails}
 use Rattle.desk.specs.declared.Checked.{Checked}
 
 -- ---- the key enclosed
@@ -113,9 +112,12 @@ held_after h r f = pick (both (is_sound f) (encloses r)) (kept_from h r) h
 
 -- ---- what is told: the finding, and the bank's own word, also where the desk refuses
 
-unfoldable pub finding_of : Result Unit Fault → Finding
-finding_of (Ok _) = Passes
-finding_of (Err fault) = Fails fault.code fault.field
+abbrev pub finding_at : (code field : ℕ) → Result Unit Finding
+finding_at code field = Err (record { code = code; field = field })
+
+unfoldable pub finding_of : Result Unit Fault → Result Unit Finding
+finding_of (Ok _) = Ok tt
+finding_of (Err fault) = finding_at fault.code fault.field
 
 -- K or E, and the code; 0 where they can't be read
 unfoldable pub letter_in : List ℕ → ℕ

@@ -1,7 +1,7 @@
 -- The desk's calls for a box in C or Rust: numbers and lent bytes in place of structs (docs/FORMAT.md, include/lentilpot.h). A refused call
 -- changes nothing lent to it.
 -- Assumes nothing.
-use Rattle.std.specs.Prelude.{ℕ, ◌≡◌, Bool, true, List, [], ◌∷◌, eqb, length, replicate}
+use Rattle.std.specs.Prelude.{ℕ, ◌≡◌, Bool, true, List, [], ◌∷◌, eqb, length, replicate, Result, Ok, Err}
 use Rattle.ground.specs.Choice.{both, either, pick, between}
 use Rattle.ground.specs.Lists.{same, overlay}
 use Rattle.keys.specs.Keys.{check_value}
@@ -18,7 +18,6 @@ use Rattle.desk.specs.declared.Held.{Held}
 use Rattle.desk.specs.declared.Parts.{Parts}
 use Rattle.desk.specs.declared.Given.{Given}
 use Rattle.desk.specs.declared.Finding.{Finding}
-use Rattle.desk.specs.declared.Finding.TheVariants.{Passes, Fails}
 use Rattle.desk.specs.declared.Checked.{Checked}
 use Rattle.desk_bytes.specs.Layout.{held_size, sent_size}
 use Rattle.desk_bytes.specs.Bytes.{is_held, held_in, held_stored, sent_in, sent_stored}
@@ -92,13 +91,13 @@ sent_after_call first closing sent =
 -- ---- a reply is checked
 
 -- the numbers of a finding: 0 where all pass; the field
-unfoldable pub finding_code : Finding → ℕ
-finding_code Passes = 0
-finding_code (Fails code field) = code
+unfoldable pub finding_code : Result Unit Finding → ℕ
+finding_code (Ok _) = 0
+finding_code (Err finding) = finding.code
 
-unfoldable pub finding_field : Finding → ℕ
-finding_field Passes = 0
-finding_field (Fails code field) = field
+unfoldable pub finding_field : Result Unit Finding → ℕ
+finding_field (Ok _) = 0
+finding_field (Err finding) = finding.field
 
 -- bytes that are a desk's, what was sent, and room for three words
 unfoldable pub is_served : (held sent word : List ℕ) → Bool

@@ -271,21 +271,21 @@ fn is_served(held: &[u8], sent: &[u8], words: usize) -> bool
     words == 3
 }
 
-fn code_of(f: desk::Finding) -> u32
+fn code_of(f: Result<(), desk::Finding>) -> u32
     ensures { result ≡ finding_code f }
 {
     match f {
-        desk::Finding::Passes => 0,
-        desk::Finding::Fails { code, field: _ } => code,
+        Ok(()) => 0,
+        Err(finding) => finding.code,
     }
 }
 
-fn field_of(f: desk::Finding) -> u32
+fn field_of(f: Result<(), desk::Finding>) -> u32
     ensures { result ≡ finding_field f }
 {
     match f {
-        desk::Finding::Passes => 0,
-        desk::Finding::Fails { code: _, field } => field,
+        Ok(()) => 0,
+        Err(finding) => finding.field,
     }
 }
 

@@ -47,7 +47,6 @@ use Rattle.whole_file.specs.WholeFile.{suo_starts, var_starts, frame_record, rec
 use Rattle.desk.specs.Desk.{pte_checked}
 use Rattle.desk.specs.declared.Held.{Held}
 use Rattle.desk.specs.declared.Sent.{Sent}
-use Rattle.desk.specs.declared.Finding.TheVariants.{Passes}
 use Rattle.reply.specs.Reply.{reply_of}
 use Rattle.law_desk.proofs.Form.{none_join}
 use Rattle.law_desk.proofs.Ends.{var_ends_pass}
@@ -243,7 +242,7 @@ module _ (h : Held) (software method stamp : List ℕ) (area once digest request
           (accepts_so _ _ _ _ (frame_judged o there f (collected var))
           (subst (λ (x : Frame). NoneFails (frame_checks s.table o.today o.kind x)) (sym frame_is)
           (frame_passes s.table o.today o.kind sound may odd well form))
-          (λ a p k. subst (λ (x : Sent). (pte_checked h x (reply_of a)).finding ≡ Passes) (known_sent suo suo_long var)
+          (λ a p k. subst (λ (x : Sent). (pte_checked h x (reply_of a)).finding ≡ Ok tt) (known_sent suo suo_long var)
           (var_ends_pass o there f (collected var) a h sound (known_length Suo suo) long p k (inl keys)).passes))
 
       pub batch_accepts : Each IsData records → (there : Standing) → there ≡ stands_after_records o s (suo ∷ records)

@@ -1,6 +1,7 @@
 -- What the calls give by value, and what is shown of it: the statements over the calls follow from these, since bytes say the values that are
 -- stored in them.
 -- Assumes nothing.
+use Rattle.std.specs.Prelude.{Ok}
 use Prim.Native.Nat.{ℕ, ◌+◌, ◌≤◌}
 use mathlib.Core.Path.{◌≡◌}
 use mathlib.Core.Bool.{true}
@@ -22,7 +23,6 @@ use Rattle.calls.specs.Reading.{opening_answer}
 use Rattle.desk.specs.Desk.{esi_checked, pte_checked}
 use Rattle.desk.specs.Sent.{sent_by}
 use Rattle.desk.specs.declared.Held.{Held}
-use Rattle.desk.specs.declared.Finding.TheVariants.{Passes}
 use Rattle.law_desk.specs.Desks.{stands_after, opens_on}
 use Rattle.build.specs.Building.{esi_building, suo_building, record_added, var_building}
 use Rattle.build.specs.declared.Given.{Given}
@@ -41,10 +41,10 @@ pub record Accepts (P : List ℕ → Type 0) (x : Step) : Type 0 where
 
 -- a desk finds nothing in the reply to an ESI, and to a batch
 abbrev pub EsiFinds : Held → (esi reply : List ℕ) → Type 0
-EsiFinds h m r = (esi_checked h (sent_by m m) r).finding ≡ Passes
+EsiFinds h m r = (esi_checked h (sent_by m m) r).finding ≡ Ok tt
 
 abbrev pub PteFinds : Held → (suo var reply : List ℕ) → Type 0
-PteFinds h suo var r = (pte_checked h (sent_by suo var) r).finding ≡ Passes
+PteFinds h suo var r = (pte_checked h (sent_by suo var) r).finding ≡ Ok tt
 
 -- ---- what is built
 

@@ -1,6 +1,7 @@
 -- A call over lent bytes that is served had all that it asks for, gives what it gives by value, and leaves it in the bytes: else it would have
 -- answered 11.
 -- Assumes nothing.
+use Rattle.std.specs.Prelude.{Ok}
 use Prim.Native.Nat.{ℕ}
 use mathlib.Core.Path.{◌≡◌, refl, sym, ap, ◌∙◌}
 use mathlib.Core.Bool.{Bool, true, false}
@@ -13,7 +14,6 @@ use Rattle.ground.proofs.Choices.{left, right, join, picks}
 use Rattle.desk.specs.Desk.{esi_checked, pte_checked}
 use Rattle.desk.specs.declared.Sent.{Sent}
 use Rattle.desk.specs.declared.Checked.{Checked}
-use Rattle.desk.specs.declared.Finding.TheVariants.{Passes}
 use Rattle.desk_bytes.specs.Layout.{sent_size}
 use Rattle.desk_bytes.specs.Bytes.{is_held, held_in, sent_bytes, sent_in, sent_stored}
 use Rattle.desk_bytes.proofs.Again.{SentFits, sent_size_fact, sent_back}
@@ -112,7 +112,7 @@ suo_served held maker clock g text batch y e z =
 -- ---- a reply is checked by what was left
 
 module _ (held sent : List ℕ) (s : Sent) (is : is_held held ≡ true) (fits : SentFits s) (e : sent ≡ sent_bytes s) where
-  answers_0 : (word : List ℕ) → length word ≡ 3 → (x : Checked) → x.finding ≡ Passes → check_answer (is_served held sent word) x ≡ 0
+  answers_0 : (word : List ℕ) → length word ≡ 3 → (x : Checked) → x.finding ≡ Ok tt → check_answer (is_served held sent word) x ≡ 0
   unfolding check_answer is_served finding_code
   answers_0 word n x p =
       picks _ _ _ (join _ _ is (join _ _ (eq-eqb _ sent_size (ap length e ∙ sent_size_fact s fits)) (eq-eqb _ 3 n))) ∙ ap finding_code p
@@ -120,12 +120,12 @@ module _ (held sent : List ℕ) (s : Sent) (is : is_held held ≡ true) (fits : 
   said : sent_in sent ≡ s
   said = ap sent_in e ∙ sent_back s fits
 
-  pub esi_passes : (reply : List ℕ) → (esi_checked (held_in held) s reply).finding ≡ Passes → EsiPassesBy held sent reply
+  pub esi_passes : (reply : List ℕ) → (esi_checked (held_in held) s reply).finding ≡ Ok tt → EsiPassesBy held sent reply
   unfolding esi_by
   esi_passes reply p word n =
       answers_0 word n _ (ap (λ (x : Sent). (esi_checked (held_in held) x reply).finding) said ∙ p)
 
-  pub pte_passes : (reply : List ℕ) → (pte_checked (held_in held) s reply).finding ≡ Passes → PtePassesBy held sent reply
+  pub pte_passes : (reply : List ℕ) → (pte_checked (held_in held) s reply).finding ≡ Ok tt → PtePassesBy held sent reply
   unfolding pte_by
   pte_passes reply p word n =
       answers_0 word n _ (ap (λ (x : Sent). (pte_checked (held_in held) x reply).finding) said ∙ p)

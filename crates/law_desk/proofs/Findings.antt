@@ -17,11 +17,12 @@ use Rattle.message.specs.declared.Fault.{Fault}
 use Rattle.message.proofs.Order.{NoneFails, accepted, none_fails_lem, found_first, each_check, first_each, parts}
 use Rattle.verdict.specs.Outcomes.{is_sound}
 use Rattle.desk_form.specs.Replies.{reply_layout, encloses, reply_checks}
-use Rattle.desk.specs.Desk.{receiver_checks, reply_key_checks, stamp_sent_checks, desk_esi_checks, batch_sent_checks, came_checks, desk_pte_checks}
+use Rattle.desk.specs.declared.Finding.{Finding}
+use Rattle.desk.specs.Desk.{receiver_checks, reply_key_checks, stamp_sent_checks, desk_esi_checks, batch_sent_checks, came_checks, desk_pte_checks, finding_at}
+use Rattle.desk.specs.declared.Finding.{Finding}
 use Rattle.desk.specs.Desk.{kept_from, held_after, finding_of, checked_by, esi_checked, pte_checked}
 use Rattle.desk.specs.declared.Held.{Held}
 use Rattle.desk.specs.declared.Sent.{Sent}
-use Rattle.desk.specs.declared.Finding.TheVariants.{Passes, Fails}
 use Rattle.law_demands.specs.Demands.{none_fails}
 use Rattle.law_demands.proofs.Accepted.{true_none}
 use Rattle.law_desk.specs.Desks.{FoundBy, FindingFirst, KeysKept, esi_findings, pte_findings, OnlyListed}
@@ -35,17 +36,25 @@ none_true (c ∷ cs) n = join _ _ (ap fails n.0) (none_true cs n.1)
 
 -- ---- a finding
 
-passes_of : (f : Result Unit Fault) → finding_of f ≡ Passes → f ≡ Ok tt
+abbrev told_code : Result Unit Finding → ℕ
+told_code (Ok _) = 0
+told_code (Err finding) = finding.code
+
+abbrev told_field : Result Unit Finding → ℕ
+told_field (Ok _) = 0
+told_field (Err finding) = finding.field
+
+passes_of : (f : Result Unit Fault) → finding_of f ≡ Ok tt → f ≡ Ok tt
 unfolding finding_of
 passes_of (Ok _) e = refl
 passes_of (Err fault) e = absurd (let z : ◌≡◌ {A = ℕ} 0 1 = cc in omega arith)
 
-fails_of : (f : Result Unit Fault) (code field : ℕ) → finding_of f ≡ Fails code field → (about : About) × (f ≡ fault_at code field about)
+fails_of : (f : Result Unit Fault) (code field : ℕ) → finding_of f ≡ finding_at code field → (about : About) × (f ≡ fault_at code field about)
 unfolding finding_of
 fails_of (Ok _) code field e = absurd (let z : ◌≡◌ {A = ℕ} 0 1 = cc in omega arith)
 fails_of (Err fault) code field e =
-    let p : fault.code ≡ code = cc in
-    let q : fault.field ≡ field = cc in
+    let p : fault.code ≡ code = ap told_code e in
+    let q : fault.field ≡ field = ap told_field e in
     (fault.about, parts fault code field p q)
 
 found_by : (h : Held) (r : List ℕ) (checks : List Check) → FoundBy checks (checked_by h r (first_failing checks))

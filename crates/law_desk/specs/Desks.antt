@@ -1,6 +1,6 @@
 -- What a bureau can hold the desk to, each statement in plain words above it (document 02, R-5).
 -- Assumes nothing.
-use Rattle.std.specs.Prelude.{ℕ, ◌≡◌, true, false, List, [], ◌∷◌, ◌++◌, ◌⊎◌, length}
+use Rattle.std.specs.Prelude.{ℕ, ◌≡◌, true, false, List, [], ◌∷◌, ◌++◌, ◌⊎◌, length, Ok}
 use Rattle.ground.specs.Choice.{both, pick}
 use Rattle.ground.specs.Lists.{member, Each}
 use Rattle.customer.specs.declared.Customer.{Customer}
@@ -23,12 +23,11 @@ use Rattle.whole_file.specs.WholeFile.{Standing, Step, esi_ends, var_ends, recor
 use Rattle.calls.specs.Reading.{opening_answer}
 use Rattle.desk_form.specs.Replies.{encloses}
 use Rattle.desk.specs.Held.{key_named}
-use Rattle.desk.specs.Desk.{desk_esi_checks, desk_pte_checks, kept_from, esi_checked, pte_checked}
+use Rattle.desk.specs.Desk.{desk_esi_checks, desk_pte_checks, kept_from, esi_checked, pte_checked, finding_at}
 use Rattle.desk.specs.Sent.{sent_by}
 use Rattle.desk.specs.declared.Held.{Held}
 use Rattle.desk.specs.declared.Sent.{Sent}
 use Rattle.desk.specs.declared.Checked.{Checked}
-use Rattle.desk.specs.declared.Finding.TheVariants.{Passes, Fails}
 use Rattle.desk.specs.declared.Parts.{Parts}
 use Rattle.desk_bytes.specs.Bytes.{is_held, held_in, sent_in}
 use Rattle.desk_edge.specs.Calls.{opened_by, entered_by, held_after_call, sent_refusal, sent_after_call, is_served, esi_by, pte_by, check_answer, check_held}
@@ -44,10 +43,10 @@ use Rattle.law_demands.specs.Demands.{none_fails, brought_by}
 -- what is told of a reply is the verdict of a list of checks: all pass exactly if none fails, else code and field are those of the first
 -- that does
 pub record FoundBy (checks : List Check) (x : Checked) : Type 0 where
-  pub passes : none_fails checks ≡ true → x.finding ≡ Passes
-  pub passed : x.finding ≡ Passes → none_fails checks ≡ true
+  pub passes : none_fails checks ≡ true → x.finding ≡ Ok tt
+  pub passed : x.finding ≡ Ok tt → none_fails checks ≡ true
   pub first : (before : List Check) (here : Check) (after : List Check) → checks ≡ before ++ (here ∷ after) → none_fails before ≡ true
-      → here.failed ≡ true → x.finding ≡ Fails here.code here.field
+      → here.failed ≡ true → x.finding ≡ finding_at here.code here.field
 
 -- Any desk, anything sent, any bytes as a reply: the finding is the first failing check's.
 abbrev pub FindingFirst : Type 0
@@ -70,8 +69,8 @@ pte_findings = 3029 ∷ 3032 ∷ 3010 ∷ 3011 ∷ 3021 ∷ 3027 ∷ 3028 ∷ 30
 -- Any bytes as a reply get one of these, or pass.
 abbrev pub OnlyListed : Type 0
 OnlyListed = (h : Held) (s : Sent) (r : List ℕ) (code field : ℕ)
-    → ((esi_checked h s r).finding ≡ Fails code field → member code esi_findings ≡ true)
-    × ((pte_checked h s r).finding ≡ Fails code field → member code pte_findings ≡ true)
+    → ((esi_checked h s r).finding ≡ finding_at code field → member code esi_findings ≡ true)
+    × ((pte_checked h s r).finding ≡ finding_at code field → member code pte_findings ≡ true)
 
 -- ---- the bank's replies
 
@@ -85,7 +84,7 @@ pub record SameKeys (h : Held) (c : Customer) (m : List ℕ) : Type 0 where
 -- bank's current working key from then on; where none is enclosed, neither side changes its current key; and of the generations that the
 -- message names both sides hold the same keys still
 pub record Passed (h : Held) (c d : Customer) (m r : List ℕ) (x : Checked) : Type 0 where
-  pub passes : x.finding ≡ Passes
+  pub passes : x.finding ≡ Ok tt
   pub own : x.held.own ≡ h.own
   pub bank : x.held.bank ≡ h.bank
   pub transport : x.held.transport ≡ h.transport

@@ -2,14 +2,74 @@
 
 #![tactic(auto)]
 
-ghost use Rattle.std.specs.Prelude.{◌≡◌, eqb};
+ghost use Rattle.std.specs.Prelude.{◌≡◌, eqb, find, map};
 ghost use Rattle.ground.specs.Choice.{either};
 ghost use Rattle.ground.specs.Lists.{all};
 ghost use Rattle.calendar.specs.Dates.{real_date};
 ghost use Rattle.table.specs.Table.{rising};
 ghost use Rattle.table.specs.Decode.{table_of};
-ghost use Rattle.refusals.specs.Refusals.{bad_day, table_full, already_there, even_part, check_differs, not_next, bad_length};
+ghost use Rattle.refusals.specs.Numbers.{code_of, condition_of};
+ghost use Rattle.refusals.specs.Refusals.{lowest, bad_day, table_full, already_there, even_part, check_differs, not_next, bad_length};
 ghost use Rattle.refusals.specs.Length.{length_of};
+
+/// Why a call is refused, by its number from 1 on.
+#[derive(Clone, Copy, Debug, PartialEq, Eq, PartialOrd, Ord)]
+pub enum Refusal {
+    /// The room for a reply is too small.
+    NoRoom = 1,
+    /// The bytes are no table.
+    NoTable,
+    /// The session is none that this call takes.
+    NoSession,
+    /// A date or time is not real, or the day is before the table's.
+    BadDate,
+    /// The table has 32 customers already.
+    TableFull,
+    /// The identity with its qualifier is there already.
+    AlreadyThere,
+    /// No customer has that identity and qualifier.
+    Unknown,
+    /// The parity of a key part is even.
+    EvenPart,
+    /// The check value differs.
+    OtherCheck,
+    /// The generation is not the next.
+    NotNext,
+    /// An argument is out of its limits.
+    OutOfLimits,
+    /// The changeover before is not past.
+    StillChanging,
+    /// A field given breaks the rules on a message's format or values.
+    OtherForm,
+}
+
+/// 0 for a call that was served, and else the refusal's number: what a box is told.
+#[tactic(auto, unfolding(crate::specs::Numbers::code_of, crate::specs::Numbers::number_of))]
+pub fn code(outcome: Result<(), Refusal>) -> u32
+    ensures { result ≡ code_of outcome }
+{
+    match outcome {
+        Ok(()) => 0,
+        Err(refusal) => refusal as u32,
+    }
+}
+
+// The first condition that holds, with its refusal.
+fn first_held(conditions: &[(bool, Refusal)]) -> Option<(bool, Refusal)>
+    ensures { result ≡ find (λ c. c.0) conditions.now }
+{
+    conditions.iter().copied().find(|&(holds, _)| holds)
+}
+
+/// The refusal of the first condition that holds, in the order of the list.
+pub fn first_of(conditions: &[(bool, Refusal)]) -> Result<(), Refusal>
+    ensures { code_of result ≡ lowest (map condition_of conditions.now) }
+{
+    match first_held(conditions) {
+        Some((_, refusal)) => Err(refusal),
+        None => Ok(()),
+    }
+}
 
 // Whether today is no real date, or before the table's day.
 pub fn is_bad_day(t: &[u8], today: calendar::Date) -> bool

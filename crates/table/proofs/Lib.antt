@@ -11,3 +11,4 @@ pub mod Names
 pub mod Exact
 pub mod Filled
 pub mod Loaded
+pub mod Looked

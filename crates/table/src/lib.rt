@@ -9,6 +9,7 @@ ghost use Rattle.std.specs.Prelude.{◌≡◌, ◌≤◌, length};
 ghost use Rattle.splices.specs.Bytes.{splice};
 ghost use Rattle.codec.specs.Layout.{enc};
 ghost use Rattle.table.specs.Table.{place_of, customer_in};
+ghost use Rattle.table.specs.Named.{named};
 ghost use Rattle.table.specs.Decode.{table_of, is_table};
 ghost use Rattle.table.specs.Written.{settings_start, header_shape, header_to};
 ghost use Rattle.table.specs.Stored.{day_stored, seed_stored, customer_stored, customer_added, table_set_up, holidays_of};
@@ -195,4 +196,14 @@ pub fn set_up(t: &mut [u8], day: calendar::Date, s: customer::Settings, holidays
     store_header(t, day.yymmdd, holidays.len() as u32);
     customer_bytes::store_settings(t, 24, s);
     store_dates(t, 82, holidays);
+}
+
+/// The customer with that identity and qualifier; where there is none, the one of all-zero bytes.
+pub fn named(t: &[u8], who: [u8; 25]) -> customer::Customer
+    ensures { result ≡ named (table_of t.now) who }
+{
+    match find(t, who) {
+        Some(i) => load(t, i),
+        None => load(t, customer_count(t) as usize),
+    }
 }

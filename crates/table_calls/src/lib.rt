@@ -2,12 +2,24 @@
 
 #![tactic(auto)]
 
-ghost use Rattle.std.specs.Prelude.{◌≡◌};
+ghost use Rattle.std.specs.Prelude.{◌≡◌, ◌<◌, ◌^◌, length, leb, ltb, eqb};
+ghost use Rattle.ground.specs.Choice.{either, fails};
+ghost use Rattle.customer.specs.Settings.{sound_who, sound_name};
+ghost use Rattle.table.specs.Table.{rising};
+ghost use Rattle.table.specs.Written.{table_size};
+ghost use Rattle.refusals.specs.Refusals.{bad_length};
+ghost use Rattle.refusals.specs.Numbers.{code_of};
 ghost use Rattle.table_calls.specs.Promises.{MeetsKeeping};
 ghost use Rattle.table_calls.specs.Calls.{new_customer, setting_up_answer, setting_up_leaves, adding_answer, adding_leaves, entering_answer};
 ghost use Rattle.table_calls.specs.Calls.{entering_leaves, ordering_answer, ordering_leaves};
 
-#[derive(Clone, Copy)]
+use calendar::{CalendarDays, Date};
+use customer::{Customer, KeyPair, Settings};
+use keys::KeyMaker;
+use refusals::Refusal;
+
+/// What a table is set up with: the bank's identity (17) and qualifier (8), the software's name, the version floor, the key maker.
+#[derive(Clone, Copy, Debug, PartialEq, Eq)]
 pub struct Setting {
     pub bank: [u8; 25],
     pub software: [u8; 16],
@@ -16,9 +28,9 @@ pub struct Setting {
     pub seed: u64,
 }
 
-#[derive(Clone, Copy)]
+#[derive(Clone, Copy, Debug, PartialEq, Eq)]
 pub struct Adding {
-    pub today: calendar::Date,
+    pub today: Date,
     pub who: [u8; 25],
     pub part1: u64,
     pub part2: u64,
@@ -27,12 +39,12 @@ pub struct Adding {
     pub types: u32,
     pub agreed: bool,
     pub leave: bool,
-    pub length: Option<calendar::CalendarDays>,
+    pub length: Option<CalendarDays>,
 }
 
-#[derive(Clone, Copy)]
+#[derive(Clone, Copy, Debug, PartialEq, Eq)]
 pub struct Entering {
-    pub today: calendar::Date,
+    pub today: Date,
     pub who: [u8; 25],
     pub part1: u64,
     pub part2: u64,
@@ -40,264 +52,191 @@ pub struct Entering {
     pub generation: u32,
 }
 
-#[derive(Clone, Copy)]
+#[derive(Clone, Copy, Debug, PartialEq, Eq)]
 pub struct Ordering {
-    pub today: calendar::Date,
+    pub today: Date,
     pub who: [u8; 25],
     pub clock: u64,
 }
 
 // ---- set up a table
 
-// The number of the refusal, 0 for none.
-pub fn setting_up_refusal(t: &[u8], s: Setting, holidays: &[u32]) -> u32
-    ensures { result ≡ setting_up_answer t.now s holidays.now }
+// Whether the table's bytes, a name, the floor or the list of holidays is out of its limits.
+#[tactic(auto, unfolding(ground::specs::Choice::either, ground::specs::Choice::fails))]
+fn is_setting_out(t: &[u8], s: Setting, holidays: &[u32]) -> bool
+    ensures { result ≡
+        either (fails (eqb (length t.now) table_size))
+        (either (fails (sound_who s.bank))
+        (either (fails (sound_name s.software))
+        (either (fails (either (eqb s.floor 110) (eqb s.floor 120)))
+        (either (ltb 200 (length holidays.now)) (fails (rising holidays.now)))))) }
 {
-    if !refusals::are_real(holidays) {
-        return 4;
-    }
-    if t.len() != 49152 {
-        return 11;
-    }
-    let bank = s.bank;
-    if !customer::is_sound_who(&bank) {
-        return 11;
-    }
-    let software = s.software;
-    if !customer::is_sound_name(&software) {
-        return 11;
-    }
-    if !refusals::is_floor(s.floor) {
-        return 11;
-    }
-    if 200 < holidays.len() {
-        return 11;
-    }
-    if !refusals::are_rising(holidays) {
-        return 11;
-    }
-    0
+    t.len() != 49152
+        || !customer::is_sound_who(&s.bank)
+        || !customer::is_sound_name(&s.software)
+        || !refusals::is_floor(s.floor)
+        || 200 < holidays.len()
+        || !refusals::are_rising(holidays)
 }
 
-// A new table without customers, of day 800101.
-pub fn set_up(t: &mut [u8], s: Setting, holidays: &[u32]) -> u32
-    ensures { MeetsKeeping (setting_up_answer t.old s holidays.now)
-        (setting_up_leaves t.old s holidays.now) result t.new }
+/// Why a table can't be set up, if it can't.
+pub fn setting_up_refusal(t: &[u8], s: Setting, holidays: &[u32]) -> Result<(), Refusal>
+    ensures { code_of result ≡ setting_up_answer t.now s holidays.now }
 {
-    let refused = setting_up_refusal(t, s, holidays);
-    if refused != 0 {
-        return refused;
-    }
-    let bank = s.bank;
-    let software = s.software;
-    let maker = keys::KeyMaker {
-        key: s.key,
-        seed: s.seed,
-    };
-    let settings = customer::Settings {
-        bank: bank,
-        software: software,
+    refusals::first_of(&[
+        (!refusals::are_real(holidays), Refusal::BadDate),
+        (is_setting_out(t, s, holidays), Refusal::OutOfLimits),
+    ])
+}
+
+/// A new table without customers, of day 800101.
+pub fn set_up(t: &mut [u8], s: Setting, holidays: &[u32]) -> Result<(), Refusal>
+    ensures { MeetsKeeping (setting_up_answer t.old s holidays.now)
+        (setting_up_leaves t.old s holidays.now) (code_of result) t.new }
+{
+    setting_up_refusal(t, s, holidays)?;
+    let settings = Settings {
+        bank: s.bank,
+        software: s.software,
         floor: s.floor,
-        maker: maker,
+        maker: KeyMaker {
+            key: s.key,
+            seed: s.seed,
+        },
     };
-    let day = calendar::Date { yymmdd: 800101 };
-    table::set_up(t, day, settings, holidays);
-    0
+    table::set_up(t, Date { yymmdd: 800101 }, settings, holidays);
+    Ok(())
 }
 
 // ---- add a customer
 
-// The number of the refusal, 0 for none.
-pub fn adding_refusal(t: &[u8], a: Adding) -> u32
-    ensures { result ≡ adding_answer t.now a }
+// Whether the name, the generation, the types or the length is out of its limits.
+#[tactic(auto, unfolding(ground::specs::Choice::either, ground::specs::Choice::fails))]
+fn is_adding_out(a: Adding) -> bool
+    ensures { result ≡
+        either (fails (sound_who a.who)) (either (ltb 9 a.generation) (either (leb (2 ^ 16) a.types) (bad_length a.length))) }
 {
-    if !table::is_table(t) {
-        return 2;
-    }
-    let today = a.today;
-    if refusals::is_bad_day(t, today) {
-        return 4;
-    }
-    if refusals::is_full(t) {
-        return 5;
-    }
-    let who = a.who;
-    if refusals::is_there(t, who) {
-        return 6;
-    }
-    if refusals::is_even_part(a.part1, a.part2) {
-        return 8;
-    }
-    if refusals::is_other_check(a.part1, a.part2, a.check) {
-        return 9;
-    }
-    if !customer::is_sound_who(&who) {
-        return 11;
-    }
-    if 9 < a.generation {
-        return 11;
-    }
-    if 65536 <= a.types {
-        return 11;
-    }
-    let length = a.length;
-    if refusals::is_bad_length(length) {
-        return 11;
-    }
-    0
+    !customer::is_sound_who(&a.who)
+        || 9 < a.generation
+        || 65536 <= a.types
+        || refusals::is_bad_length(a.length)
+}
+
+/// Why a customer can't be added, if it can't.
+pub fn adding_refusal(t: &[u8], a: Adding) -> Result<(), Refusal>
+    ensures { code_of result ≡ adding_answer t.now a }
+{
+    refusals::first_of(&[
+        (!table::is_table(t), Refusal::NoTable),
+        (refusals::is_bad_day(t, a.today), Refusal::BadDate),
+        (refusals::is_full(t), Refusal::TableFull),
+        (refusals::is_there(t, a.who), Refusal::AlreadyThere),
+        (refusals::is_even_part(a.part1, a.part2), Refusal::EvenPart),
+        (refusals::is_other_check(a.part1, a.part2, a.check), Refusal::OtherCheck),
+        (is_adding_out(a), Refusal::OutOfLimits),
+    ])
 }
 
 // The customer that is added.
-fn new_customer(a: Adding) -> customer::Customer
+#[tactic(auto, unfolding(crate::specs::Calls::new_customer))]
+fn new_customer(a: Adding) -> Customer
     ensures { result ≡ new_customer a }
 {
-    let who = a.who;
-    let length = a.length;
-    let days = refusals::days_of(length);
     let key = keys::combine(a.part1, a.part2);
-    let first = keys::working_key_0(key);
-    let transport = customer::KeyPair {
-        generation: a.generation,
-        key: key,
-        previous: None,
-    };
-    let working = customer::KeyPair {
-        generation: 0,
-        key: first,
-        previous: None,
-    };
-    customer::Customer {
-        who: who,
+    Customer {
+        who: a.who,
         types: a.types,
         agreed: a.agreed,
         leave: a.leave,
-        length: days,
-        transport: transport,
-        working: working,
+        length: refusals::days_of(a.length),
+        transport: KeyPair {
+            generation: a.generation,
+            key,
+            previous: None,
+        },
+        working: KeyPair {
+            generation: 0,
+            key: keys::working_key_0(key),
+            previous: None,
+        },
         count: 0,
-        stamps: [0u64; 64],
-        once: [0u64; 64],
+        stamps: [0; 64],
+        once: [0; 64],
     }
 }
 
-// One customer more.
-pub fn add(t: &mut [u8], a: Adding) -> u32
-    ensures { MeetsKeeping (adding_answer t.old a) (adding_leaves t.old a) result t.new }
+/// One customer more.
+pub fn add(t: &mut [u8], a: Adding) -> Result<(), Refusal>
+    ensures { MeetsKeeping (adding_answer t.old a) (adding_leaves t.old a) (code_of result) t.new }
 {
-    let refused = adding_refusal(t, a);
-    if refused != 0 {
-        return refused;
-    }
-    let c = new_customer(a);
-    let today = a.today;
-    table::add(t, c);
-    table::store_day(t, today);
-    0
+    adding_refusal(t, a)?;
+    table::add(t, new_customer(a));
+    table::store_day(t, a.today);
+    Ok(())
 }
 
 // ---- enter a transport key
 
-// The number of the refusal, 0 for none.
-pub fn entering_refusal(t: &[u8], e: Entering) -> u32
-    ensures { result ≡ entering_answer t.now e }
+/// Why a transport key can't be entered, if it can't.
+pub fn entering_refusal(t: &[u8], e: Entering) -> Result<(), Refusal>
+    ensures { code_of result ≡ entering_answer t.now e }
 {
-    if !table::is_table(t) {
-        return 2;
-    }
-    let today = e.today;
-    if refusals::is_bad_day(t, today) {
-        return 4;
-    }
-    let who = e.who;
-    let Some(i) = table::find(t, who) else {
-        return 7;
-    };
-    if refusals::is_even_part(e.part1, e.part2) {
-        return 8;
-    }
-    if refusals::is_other_check(e.part1, e.part2, e.check) {
-        return 9;
-    }
-    let c = table::load(t, i);
-    let k = c.transport;
-    if refusals::is_not_next(k.generation, e.generation) {
-        return 10;
-    }
-    let old = k.previous;
-    if changeover::is_changing(old, today) {
-        return 12;
-    }
-    0
+    let k = table::named(t, e.who).transport;
+    refusals::first_of(&[
+        (!table::is_table(t), Refusal::NoTable),
+        (refusals::is_bad_day(t, e.today), Refusal::BadDate),
+        (!refusals::is_there(t, e.who), Refusal::Unknown),
+        (refusals::is_even_part(e.part1, e.part2), Refusal::EvenPart),
+        (refusals::is_other_check(e.part1, e.part2, e.check), Refusal::OtherCheck),
+        (refusals::is_not_next(k.generation, e.generation), Refusal::NotNext),
+        (changeover::is_changing(k.previous, e.today), Refusal::StillChanging),
+    ])
 }
 
-// A new transport key.
-pub fn enter(t: &mut [u8], e: Entering) -> u32
-    ensures { MeetsKeeping (entering_answer t.old e) (entering_leaves t.old e) result t.new }
+/// A new transport key.
+pub fn enter(t: &mut [u8], e: Entering) -> Result<(), Refusal>
+    ensures { MeetsKeeping (entering_answer t.old e) (entering_leaves t.old e) (code_of result) t.new }
 {
-    let refused = entering_refusal(t, e);
-    if refused != 0 {
-        return refused;
-    }
-    let who = e.who;
-    let today = e.today;
-    let Some(i) = table::find(t, who) else {
-        return 0;
+    entering_refusal(t, e)?;
+    let Some(i) = table::find(t, e.who) else {
+        return Err(Refusal::Unknown);
     };
-    let c = table::load(t, i);
     let key = keys::combine(e.part1, e.part2);
-    let after = changeover::with_transport(c, e.generation, key, today);
+    let after = changeover::with_transport(table::load(t, i), e.generation, key, e.today);
     table::store(t, i, after);
-    table::store_day(t, today);
-    0
+    table::store_day(t, e.today);
+    Ok(())
 }
 
 // ---- order a new working key
 
-// The number of the refusal, 0 for none.
-pub fn ordering_refusal(t: &[u8], o: Ordering) -> u32
-    ensures { result ≡ ordering_answer t.now o }
+/// Why a working key can't be ordered, if it can't.
+pub fn ordering_refusal(t: &[u8], o: Ordering) -> Result<(), Refusal>
+    ensures { code_of result ≡ ordering_answer t.now o }
 {
-    if !table::is_table(t) {
-        return 2;
-    }
-    let today = o.today;
-    if refusals::is_bad_day(t, today) {
-        return 4;
-    }
-    let who = o.who;
-    let Some(i) = table::find(t, who) else {
-        return 7;
-    };
-    let c = table::load(t, i);
-    let k = c.working;
-    let previous = k.previous;
-    if changeover::is_changing(previous, today) {
-        return 12;
-    }
-    0
+    let k = table::named(t, o.who).working;
+    refusals::first_of(&[
+        (!table::is_table(t), Refusal::NoTable),
+        (refusals::is_bad_day(t, o.today), Refusal::BadDate),
+        (!refusals::is_there(t, o.who), Refusal::Unknown),
+        (changeover::is_changing(k.previous, o.today), Refusal::StillChanging),
+    ])
 }
 
-// A new working key, from the key maker.
-pub fn order(t: &mut [u8], o: Ordering) -> u32
-    ensures { MeetsKeeping (ordering_answer t.old o) (ordering_leaves t.old o) result t.new }
+/// A new working key, from the key maker.
+pub fn order(t: &mut [u8], o: Ordering) -> Result<(), Refusal>
+    ensures { MeetsKeeping (ordering_answer t.old o) (ordering_leaves t.old o) (code_of result) t.new }
 {
-    let refused = ordering_refusal(t, o);
-    if refused != 0 {
-        return refused;
-    }
-    let who = o.who;
-    let today = o.today;
-    let Some(i) = table::find(t, who) else {
-        return 0;
+    ordering_refusal(t, o)?;
+    let Some(i) = table::find(t, o.who) else {
+        return Err(Refusal::Unknown);
     };
-    let c = table::load(t, i);
-    let settings = table::settings(t);
-    let maker = settings.maker;
+    let maker = table::settings(t).maker;
     let mut seed = maker.seed;
     let key = keys::take_key(maker.key, &mut seed, o.clock);
-    let after = changeover::with_working(c, key, today);
+    let after = changeover::with_working(table::load(t, i), key, o.today);
     table::store(t, i, after);
     table::store_seed(t, seed);
-    table::store_day(t, today);
-    0
+    table::store_day(t, o.today);
+    Ok(())
 }

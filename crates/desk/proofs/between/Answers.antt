@@ -5,4 +5,4 @@ use Rattle.desk.proofs.between.Goals as goal
 
 pub returns : goal.returns
 returns c =
-    cut_part _ _ _ c.requires refl refl c.least-a.ensures c.least-e.ensures
+    cut_part _ _ _ c.requires refl refl c.min.ensures c.min-2.ensures

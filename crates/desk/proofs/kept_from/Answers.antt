@@ -11,6 +11,6 @@ use Rattle.desk.proofs.kept_from.Goals as goal
 pub returns : goal.returns
 unfolding kept_from working_generation_of field_text offset_in width_in pick
 returns c =
-    ap (with_working c.args.h) (c.with_enclosed-working.ensures
+    ap (with_working c.args.h) (c.with_enclosed.ensures
     ∙ ap₂ (with_enclosed _) c.generation_at.ensures
     (c.key_or_0-key.ensures ∙ ap key_or0 c.enclosed_in.ensures))

@@ -1,30 +1,23 @@
 -- A refused call returns before it writes, and the parts that a served one writes make up the table.
-use mathlib.Core.Path.{◌≡◌, sym, ◌∙◌}
-use lib.ListN.{length}
+use Rattle.std.proofs.Common.{rules, ◌≡◌, length, ◌<◌, ◌^◌}
+use mathlib.Core.Path.{refl, sym, ap, ◌∙◌}
+use Rattle.refusals.specs.Numbers.{code_of}
+use Rattle.refusals.proofs.Found.{not_served, served}
 use Rattle.table_calls.specs.Calls.{adding_leaves}
 use Rattle.table_calls.proofs.Rewritten.{refused_as}
 use Rattle.table_calls.proofs.Served.{added_is}
-use borrow.Author.Rules.{rules}
-use Rattle.table_calls.proofs.add.Lts as lts
-use Rattle.table_calls.proofs.add.Reads as reads
-use Rattle.table_calls.proofs.add.Tie as tie
 use Rattle.table_calls.proofs.add.Goals as goal
 
-abbrev Start : Type 0
-Start = lts.Start tie.the-claims reads.Pre reads.Post
-
-pub returns-then-refused-ne0 : goal.returns-then-refused-ne0
+pub returns-in_err-adding_refusal : goal.returns-in_err-adding_refusal
 unfolding adding_leaves
-returns-then-refused-ne0 c = let e = c.adding_refusal-refused.ensures in record { answers = e; leaves = refused_as _ _ _ _ e c.if-refused-ne0.true }
-
-who-length : (c : Start) → length c.args.a.who ≡ 25
-who-length c = search rules
+returns-in_err-adding_refusal c =
+    let same : c.from_residual.result ≡ c.adding_refusal.result = search rules in
+    let e = c.adding_refusal.ensures in
+    record { answers = ap code_of same ∙ e; leaves = refused_as _ _ _ _ e (not_served _ _ c.in_err-adding_refusal.was) }
 
 pub returns : goal.returns
+unfolding code_of
 returns c =
-    let e = sym c.adding_refusal-refused.ensures ∙ c.if-refused-ne0.false in
-    let is = added_is _ c.args.a e (who-length c.before.before.before.before.before.before.before.before.before.before.before.before.before.before) in
-    record {
-      answers = sym e;
-      leaves = is _ _ _ c.new_customer-c.ensures c.add.ensures c.store_day.ensures;
-    }
+    let z = sym c.adding_refusal.ensures ∙ served _ _ c.in_ok-adding_refusal.was in
+    let who : length c.args.a.who ≡ 25 = search rules in
+    record { answers = sym z; leaves = added_is _ c.args.a z who _ _ _ c.new_customer.ensures c.add.ensures c.store_day.ensures }

@@ -1,30 +1,26 @@
--- A refused call returns before it writes, and a served one writes the new table.
-use mathlib.Core.Path.{◌≡◌, refl, sym, ◌∙◌}
-use Prim.Native.Nat.{◌<◌, ◌^◌}
-use lib.ListN.{length}
+-- A refused call returns before it writes, and the parts that a served one writes make up the table.
+use Rattle.std.proofs.Common.{rules, ◌≡◌, length, ◌<◌, ◌^◌}
+use mathlib.Core.Path.{refl, sym, ap, ◌∙◌}
+use Rattle.refusals.specs.Numbers.{code_of}
+use Rattle.refusals.proofs.Found.{not_served, served}
 use Rattle.table_calls.specs.Calls.{setting_up_leaves}
 use Rattle.table_calls.proofs.Rewritten.{refused_as}
 use Rattle.table_calls.proofs.Served.{set_up_is}
-use borrow.Author.Rules.{rules}
-use Rattle.table_calls.proofs.set_up.Lts as lts
-use Rattle.table_calls.proofs.set_up.Reads as reads
-use Rattle.table_calls.proofs.set_up.Tie as tie
 use Rattle.table_calls.proofs.set_up.Goals as goal
 
-abbrev Start : Type 0
-Start = lts.Start tie.the-claims reads.Pre reads.Post
-
-pub returns-then-refused-ne0 : goal.returns-then-refused-ne0
+pub returns-in_err-setting_up_refusal : goal.returns-in_err-setting_up_refusal
 unfolding setting_up_leaves
-returns-then-refused-ne0 c = let e = c.setting_up_refusal-refused.ensures in record { answers = e; leaves = refused_as _ _ _ _ e c.if-refused-ne0.true }
-
-sized : (c : Start) → (length c.args.s.bank ≡ 25) × (length c.args.s.software ≡ 16)
-    × (c.args.s.key < 2 ^ 64) × (c.args.s.seed < 2 ^ 64)
-sized c = search rules
+returns-in_err-setting_up_refusal c =
+    let same : c.from_residual.result ≡ c.setting_up_refusal.result = search rules in
+    let e = c.setting_up_refusal.ensures in
+    record { answers = ap code_of same ∙ e; leaves = refused_as _ _ _ _ e (not_served _ _ c.in_err-setting_up_refusal.was) }
 
 pub returns : goal.returns
+unfolding code_of
 returns c =
-    let e = sym c.setting_up_refusal-refused.ensures ∙ c.if-refused-ne0.false in
-    let l = sized c.before.before.before.before.before.before.before.before.before.before.before in
-    let is = set_up_is _ c.args.s _ e l.0 l.1 l.2 l.3 _ _ refl c.set_up.ensures in
-    record { answers = sym e; leaves = is }
+    let z = sym c.setting_up_refusal.ensures ∙ served _ _ c.in_ok-setting_up_refusal.was in
+    let bank : length c.args.s.bank ≡ 25 = search rules in
+    let software : length c.args.s.software ≡ 16 = search rules in
+    let key : c.args.s.key < 2 ^ 64 = search rules in
+    let seed : c.args.s.seed < 2 ^ 64 = search rules in
+    record { answers = sym z; leaves = set_up_is _ c.args.s _ z bank software key seed _ _ refl c.set_up.ensures }
