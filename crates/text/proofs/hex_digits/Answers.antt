@@ -1,15 +1,9 @@
 -- The digits still to be written, before those that are, are the digits of the number.
-use mathlib.Core.Path.{refl}
-use mathlib.Core.List.{append-nil}
 use native.Mathlib.Omega.{arith}
 use lib.ListN.{length-set}
-use Rattle.text.specs.Numbers.{hex_digits}
 use Rattle.text.proofs.Base.{write_more, write_end}
 use Rattle.text.proofs.Laws.{hexes}
 use Rattle.text.proofs.hex_digits.Goals as goal
-
-pub loop-i-init : goal.loop-i-init
-loop-i-init c = (omega arith, refl, append-nil (hex_digits 16 c.args.x))
 
 pub loop-i-preserved : goal.loop-i-preserved
 loop-i-preserved c =

@@ -8,6 +8,3 @@ use Rattle.text.proofs.hex_digits.Given as goal
 abbrev pub invariant-loop-i : goal.invariant-loop-i
 invariant-loop-i l =
     (l.i ≤ 16) × (length l.out ≡ 16) × (hex_digits l.i l.rest ++ drop l.i l.out ≡ hex_digits 16 l.x)
-
-abbrev pub decreases-loop-i : goal.decreases-loop-i
-decreases-loop-i l = l.i

@@ -1,15 +1,10 @@
 -- The digits still to be written, before those that are, are the digits of the number.
 use mathlib.Core.Path.{refl}
-use mathlib.Core.List.{append-nil}
 use native.Mathlib.Omega.{arith}
 use lib.ListN.{length-set}
-use lib.Seq.{drop-length}
 use Rattle.text.proofs.Base.{write_more, write_end}
 use Rattle.text.proofs.Laws.{decimals}
 use Rattle.text.proofs.write_number.Goals as goal
-
-pub loop-i-init : goal.loop-i-init
-loop-i-init c = (omega arith, refl, rw drop-length (append-nil _))
 
 pub loop-i-preserved : goal.loop-i-preserved
 loop-i-preserved c =

@@ -10,6 +10,3 @@ invariant-loop-i l =
     (l.i ≤ length l.initial.out)
     × (length l.out ≡ length l.initial.out)
     × (decimal_digits l.i l.rest ++ drop l.i l.out ≡ decimal_digits (length l.initial.out) l.x)
-
-abbrev pub decreases-loop-i : goal.decreases-loop-i
-decreases-loop-i l = l.i
