@@ -2,10 +2,10 @@
 
 #![tactic(auto)]
 
-ghost use Rattle.std.specs.Prelude.{◌≡◌, ◌%◌, length, take, replicate};
+ghost use Rattle.std.specs.Prelude.{◌≡◌, ◌^◌, ◌<◌, ◌≤◌, length, take, replicate};
 ghost use Rattle.ground.specs.Lists.{all, same, overlay};
 ghost use Rattle.text.specs.Characters.{blank, digit, field_character, internal, hex_digit, all_blank, padded};
-ghost use Rattle.text.specs.Numbers.{digit_value, hex_value, decimal, hex, hex_character, hex_digits, decimal_digits};
+ghost use Rattle.text.specs.Numbers.{decimal, hex, hex_character, hex_digits, decimal_digits, value_in, number_from, digits_in};
 
 // The byte of the internal code.
 #[tactic(auto, unfolding(crate::specs::Characters::internal, ground::specs::Choice::pick, ground::specs::Choice::between, ground::specs::Choice::both))]
@@ -66,60 +66,65 @@ pub fn all_blank(s: &[u8]) -> bool
     s.iter().all(|&b| b == b' ')
 }
 
-// What a digit counts; any other character counts 0.
-#[tactic(auto, unfolding(crate::specs::Numbers::digit_value, ground::specs::Choice::pick, ground::specs::Choice::between, ground::specs::Choice::both))]
-fn digit_value(b: u8) -> u64
-    ensures { result ≡ digit_value b }
+// What a digit of the base counts, 0-9 and then A-F; any other character counts 0.
+#[tactic(auto, unfolding(crate::specs::Numbers::value_in, crate::specs::Numbers::hex_value, crate::specs::Characters::hex_digit, ground::specs::Choice::pick, ground::specs::Choice::either, ground::specs::Choice::between, ground::specs::Choice::both))]
+fn digit_value<const BASE: u64>(b: u8) -> u64
+    ensures { result ≡ value_in BASE b }
 {
-    match b {
-        b'0'..=b'9' => u64::from(b - b'0'),
-        _ => 0,
-    }
-}
-
-// The same of a hex digit.
-#[tactic(auto, unfolding(crate::specs::Numbers::hex_value, crate::specs::Characters::hex_digit, ground::specs::Choice::pick, ground::specs::Choice::either, ground::specs::Choice::between, ground::specs::Choice::both))]
-fn hex_value(b: u8) -> u64
-    ensures { result ≡ hex_value b }
-{
-    match b {
+    let value = match b {
         b'0'..=b'9' => u64::from(b - b'0'),
         b'A'..=b'F' => u64::from(b - b'A' + 10),
         _ => 0,
+    };
+    if value < BASE { value } else { 0 }
+}
+
+// The number that digits of the base write.
+fn number_in<const BASE: u64>(s: &[u8]) -> u64
+    requires base { (0 < BASE) × (BASE ≤ 16) }
+    requires fits { BASE ^ length s.now ≤ 2 ^ 64 }
+    ensures { result ≡ number_from BASE 0 s.now }
+{
+    let mut n = 0;
+    for &b in s {
+        n = n * BASE + digit_value::<BASE>(b);
     }
+    n
 }
 
 // The number that digits write: of the first nineteen characters, which always fits.
 pub fn number(s: &[u8]) -> u64
     ensures { result ≡ decimal (take 19 s.now) }
 {
-    let first = &s[..s.len().min(19)];
-    let mut n = 0;
-    for &b in first {
-        n = n * 10 + digit_value(b);
-    }
-    n
+    number_in::<10>(&s[..s.len().min(19)])
 }
 
 // The number that hex digits write: of the first sixteen characters, which always fits.
 pub fn hex_number(s: &[u8]) -> u64
     ensures { result ≡ hex (take 16 s.now) }
 {
-    let first = &s[..s.len().min(16)];
-    let mut n = 0;
-    for &b in first {
-        n = n * 16 + hex_value(b);
-    }
-    n
+    number_in::<16>(&s[..s.len().min(16)])
 }
 
-// The character of the lowest hex digit of a number.
+// The character of a number below 16.
 #[tactic(auto, unfolding(crate::specs::Numbers::hex_character, ground::specs::Choice::pick))]
-fn hex_character(x: u64) -> u8
-    ensures { result ≡ hex_character (x % 16) }
+fn character(v: u8) -> u8
+    requires { v < 16 }
+    ensures { result ≡ hex_character v }
 {
-    let v = (x % 16) as u8;
     if v < 10 { b'0' + v } else { b'A' - 10 + v }
+}
+
+// The lowest digits of a number in the base, as many as there is room for.
+fn write_in<const BASE: u64>(out: &mut [u8], x: u64)
+    requires { (0 < BASE) × (BASE ≤ 16) }
+    ensures { out.new ≡ digits_in BASE (length out.old) x }
+{
+    let mut rest = x;
+    for i in (0..out.len()).rev() {
+        out[i] = character((rest % BASE) as u8);
+        rest /= BASE;
+    }
 }
 
 // The sixteen hex digits of a number.
@@ -127,11 +132,7 @@ pub fn hex_digits(x: u64) -> [u8; 16]
     ensures { result ≡ hex_digits 16 x }
 {
     let mut out = [0; 16];
-    let mut rest = x;
-    for i in (0..16).rev() {
-        out[i] = hex_character(rest);
-        rest /= 16;
-    }
+    write_in::<16>(&mut out, x);
     out
 }
 
@@ -139,11 +140,7 @@ pub fn hex_digits(x: u64) -> [u8; 16]
 pub fn write_number(out: &mut [u8], x: u64)
     ensures { out.new ≡ decimal_digits (length out.old) x }
 {
-    let mut rest = x;
-    for i in (0..out.len()).rev() {
-        out[i] = b'0' + (rest % 10) as u8;
-        rest /= 10;
-    }
+    write_in::<10>(out, x);
 }
 
 #[tactic(auto, using(ground::proofs::Std::same_is))]

@@ -1,25 +1,21 @@
--- The loop has the number that the characters passed write, and 16 digits of base sixteen fit.
-use mathlib.Core.Path.{sym}
+-- That many digits fit, and the part is the first of them.
+use mathlib.Core.Path.{◌≡◌, ap, ◌∙◌}
+use Prim.Native.Nat.{ℕ}
+use native.Mathlib.Nat.{pow-le-pow_right}
 use native.Mathlib.Omega.{arith}
-use lib.ListN.{length-take}
-use Rattle.text.proofs.Base.{read_more, read_fits}
-use Rattle.text.proofs.Laws.{hex-nil, hexes}
+use lib.ListN.{length, take, length-take}
+use Rattle.ground.proofs.Parts.{take_kept}
+use Rattle.text.specs.Numbers.{hex}
+use Rattle.text.proofs.Bases.{hex_is}
 use Rattle.text.proofs.hex_number.Goals as goal
 
-pub loop-b-init : goal.loop-b-init
-loop-b-init c = sym (hex-nil 0)
+pub number_in-requires-clause-fits : goal.number_in-requires-clause-fits
+number_in-requires-clause-fits c =
+    let a = c.args.s.now in
+    omega (arith, pow-le-pow_right {n = 16} (omega arith) {i = length (take c.min.result a)} {j = 16} (omega (arith, c.min.ensures, length-take c.min.result a)))
 
-pub overflow_mul-n : goal.overflow_mul-n
-overflow_mul-n c =
-    let l = c.loop-b in
-    omega (arith, length-take c.min.result c.args.s.now, read_fits hexes _ l.b-index l.n l.invariant c.loop-b-test.true 16 (omega (arith, c.min.ensures, c.loop-b-test.true, length-take c.min.result c.args.s.now)))
-
-pub overflow_add-n : goal.overflow_add-n
-overflow_add-n c =
-    let l = c.loop-b in
-    omega (arith, c.hex_value.ensures, read_fits hexes _ l.b-index l.n l.invariant c.loop-b-test.true 16 (omega (arith, c.min.ensures, c.loop-b-test.true, length-take c.min.result c.args.s.now)))
-
-pub loop-b-preserved : goal.loop-b-preserved
-loop-b-preserved c =
-    let l = c.loop-b in
-    read_more hexes _ l.b-index l.n l.invariant c.loop-b-test.true _ c.hex_value.ensures
+pub returns : goal.returns
+returns c =
+    let a = c.args.s.now in
+    let e : c.min.result ≡ length (take 16 a) = omega (arith, c.min.ensures, length-take 16 a) in
+    c.number_in.ensures ∙ hex_is 0 _ ∙ ap hex (ap (λ (n : ℕ). take n a) e ∙ take_kept 16 a)

@@ -1,25 +1,21 @@
--- The loop has the number that the characters passed write, and 19 digits of base ten fit.
-use mathlib.Core.Path.{sym}
+-- That many digits fit, and the part is the first of them.
+use mathlib.Core.Path.{◌≡◌, ap, ◌∙◌}
+use Prim.Native.Nat.{ℕ}
+use native.Mathlib.Nat.{pow-le-pow_right}
 use native.Mathlib.Omega.{arith}
-use lib.ListN.{length-take}
-use Rattle.text.proofs.Base.{read_more, read_fits}
-use Rattle.text.proofs.Laws.{decimal-nil, decimals}
+use lib.ListN.{length, take, length-take}
+use Rattle.ground.proofs.Parts.{take_kept}
+use Rattle.text.specs.Numbers.{decimal}
+use Rattle.text.proofs.Bases.{decimal_is}
 use Rattle.text.proofs.number.Goals as goal
 
-pub loop-b-init : goal.loop-b-init
-loop-b-init c = sym (decimal-nil 0)
+pub number_in-requires-clause-fits : goal.number_in-requires-clause-fits
+number_in-requires-clause-fits c =
+    let a = c.args.s.now in
+    omega (arith, pow-le-pow_right {n = 10} (omega arith) {i = length (take c.min.result a)} {j = 19} (omega (arith, c.min.ensures, length-take c.min.result a)))
 
-pub overflow_mul-n : goal.overflow_mul-n
-overflow_mul-n c =
-    let l = c.loop-b in
-    omega (arith, length-take c.min.result c.args.s.now, read_fits decimals _ l.b-index l.n l.invariant c.loop-b-test.true 19 (omega (arith, c.min.ensures, c.loop-b-test.true, length-take c.min.result c.args.s.now)))
-
-pub overflow_add-n : goal.overflow_add-n
-overflow_add-n c =
-    let l = c.loop-b in
-    omega (arith, c.digit_value.ensures, read_fits decimals _ l.b-index l.n l.invariant c.loop-b-test.true 19 (omega (arith, c.min.ensures, c.loop-b-test.true, length-take c.min.result c.args.s.now)))
-
-pub loop-b-preserved : goal.loop-b-preserved
-loop-b-preserved c =
-    let l = c.loop-b in
-    read_more decimals _ l.b-index l.n l.invariant c.loop-b-test.true _ c.digit_value.ensures
+pub returns : goal.returns
+returns c =
+    let a = c.args.s.now in
+    let e : c.min.result ≡ length (take 19 a) = omega (arith, c.min.ensures, length-take 19 a) in
+    c.number_in.ensures ∙ decimal_is 0 _ ∙ ap decimal (ap (λ (n : ℕ). take n a) e ∙ take_kept 19 a)
