@@ -17,6 +17,7 @@ pub fn fits(n: usize, at: usize, k: usize) -> bool
 
 // ---- reading
 
+// The N bytes at `at`.
 fn bytes_at<const N: usize>(t: &[u8], at: usize) -> [u8; N]
     requires { at + N ≤ length t.now }
     ensures { result ≡ part at N t.now }
@@ -55,7 +56,7 @@ pub fn read8(t: &[u8], at: usize) -> u64
 }
 
 // The bytes at `at`, as many as there is room for.
-#[tactic(auto, unfolding(ground::specs::Lists::part))]
+#[tactic(auto, using(ground::proofs::Std::words))]
 pub fn read_bytes(out: &mut [u8], t: &[u8], at: usize)
     requires { at + length out.old ≤ length t.now }
     ensures { out.new ≡ part at (length out.old) t.now }
@@ -125,7 +126,7 @@ pub fn flag_number(b: bool) -> u32
 // ---- testing
 
 // Whether the bytes at `at` are those of s.
-#[tactic(auto, using(ground::proofs::Std::same_is), unfolding(ground::specs::Lists::part))]
+#[tactic(auto, using(ground::proofs::Std::words))]
 pub fn same_at<'a>(s: &'a [u8], t: &'a [u8], at: usize) -> bool
     requires { at + length s.now ≤ length t.now }
     ensures { result ≡ same s.now (part at (length s.now) t.now) }

@@ -60,3 +60,6 @@ same_is (x ∷ a) (y ∷ b) = both_is (eqb x y) (same a b) ∙ ap (λ (r : Bool)
 pub part_is : (at n : ℕ) (l : List ℕ) → part at n l ≡ take n (drop at l)
 unfolding part
 part_is at n l = refl
+
+-- all of them at once, as `#[tactic(auto, using(ground::proofs::Std::words))]` names them
+pub ruleset words = (both_is, either_is, fails_is, pick_is, between_is, all_is, member_is, same_is, part_is)

@@ -8,7 +8,7 @@ ghost use Rattle.text.specs.Characters.{blank, digit, field_character, internal,
 ghost use Rattle.text.specs.Numbers.{decimal, hex, hex_character, hex_digits, decimal_digits, value_in, number_from, digits_in};
 
 // The byte of the internal code.
-#[tactic(auto, unfolding(crate::specs::Characters::internal, ground::specs::Choice::pick, ground::specs::Choice::between, ground::specs::Choice::both))]
+#[tactic(auto, using(ground::proofs::Std::words), unfolding(crate::specs::Characters::internal))]
 pub fn internal_code(b: u8) -> u8
     ensures { result ≡ internal b }
 {
@@ -27,14 +27,14 @@ pub fn is_field_character(b: u8) -> bool
     matches!(b, b'A'..=b'Z' | b'('..=b'>' | b' ' | b'%')
 }
 
-#[tactic(auto, unfolding(ground::specs::Choice::between, ground::specs::Choice::both))]
+#[tactic(auto, using(ground::proofs::Std::words))]
 pub fn is_digit(b: u8) -> bool
     ensures { result ≡ digit b }
 {
     b.is_ascii_digit()
 }
 
-#[tactic(auto, unfolding(crate::specs::Characters::hex_digit, ground::specs::Choice::either, ground::specs::Choice::between, ground::specs::Choice::both))]
+#[tactic(auto, using(ground::proofs::Std::words), unfolding(crate::specs::Characters::hex_digit))]
 pub fn is_hex_digit(b: u8) -> bool
     ensures { result ≡ hex_digit b }
 {
@@ -67,7 +67,7 @@ pub fn all_blank(s: &[u8]) -> bool
 }
 
 // What a digit of the base counts, 0-9 and then A-F; any other character counts 0.
-#[tactic(auto, unfolding(crate::specs::Numbers::value_in, crate::specs::Numbers::hex_value, crate::specs::Characters::hex_digit, ground::specs::Choice::pick, ground::specs::Choice::either, ground::specs::Choice::between, ground::specs::Choice::both))]
+#[tactic(auto, using(ground::proofs::Std::words), unfolding(crate::specs::Numbers::value_in, crate::specs::Numbers::hex_value, crate::specs::Characters::hex_digit))]
 fn digit_value<const BASE: u64>(b: u8) -> u64
     ensures { result ≡ value_in BASE b }
 {
@@ -107,7 +107,7 @@ pub fn hex_number(s: &[u8]) -> u64
 }
 
 // The character of a number below 16.
-#[tactic(auto, unfolding(crate::specs::Numbers::hex_character, ground::specs::Choice::pick))]
+#[tactic(auto, using(ground::proofs::Std::words), unfolding(crate::specs::Numbers::hex_character))]
 fn character(v: u8) -> u8
     requires { v < 16 }
     ensures { result ≡ hex_character v }
@@ -143,7 +143,7 @@ pub fn write_number(out: &mut [u8], x: u64)
     write_in::<10>(out, x);
 }
 
-#[tactic(auto, using(ground::proofs::Std::same_is))]
+#[tactic(auto, using(ground::proofs::Std::words))]
 pub fn same_bytes(a: &[u8], b: &[u8]) -> bool
     ensures { result ≡ same a.now b.now }
 {
