@@ -8,11 +8,11 @@ use Prim.Native.Nat.{ℕ, zero, suc, ◌+◌, ◌-◌, ◌/◌, ◌%◌, ◌<◌
 use native.Mathlib.Nat.{zero-add}
 use native.Mathlib.Numerals.{add-one}
 use native.Mathlib.Omega.{arith}
-use lib.ListN.{length, drop, get_or, set, replicate, length-append, length-replicate, length-drop, drop_of_length-le}
-use lib.Seq.{drop-cons}
+use lib.ListN.{length, take, drop, get_or, set, replicate, length-append, length-replicate, length-drop, drop_of_length-le}
+use lib.Seq.{drop-cons, take_all, take-suc-set}
 use Rattle.ground.proofs.Choices.{left, right}
 use Rattle.splices.specs.Bytes.{bytes_of, splice}
-use Rattle.splices.proofs.Splice.{set1, splice_none, splice-splice}
+use Rattle.splices.proofs.Splice.{splice_none, splice-splice}
 use Rattle.splices.proofs.Chunks.{bytes_of-length}
 use Rattle.codec.specs.Layout.{Shape, number, named, text, numbers, many, perhaps, within, ◌⊗◌, Value, width, enc, scalar}
 use Rattle.codec.specs.Rows.{total, fields, widths, cells}
@@ -95,28 +95,20 @@ row (s ⊗ t) h (x, y) =
     fields-append (widths s) (widths t) (cells s x) (cells t y) (cells-length s x)
     ∙ ap₂ ◌++◌ (row s (left (scalar s) (scalar t) h) x) (row t (right (scalar s) (scalar t) h) y)
 
--- ---- the loop that writes a number: what is left of it, written past what was written, is the whole
+-- ---- the loop that writes a number: the bytes that are written, and what is left of it
 
-number_turn : (w m p : ℕ) (t : List ℕ) → p + suc w ≤ length t → splice (p + 1) (bytes_of w (m / 256)) (set t p (m % 256))
-    ≡ splice p (bytes_of (suc w) m) t
-unfolding bytes_of
-number_turn w m p t h =
-    let n = bytes_of-length w (m / 256) in
-    ap (splice (p + 1) (bytes_of w (m / 256))) (set1 t p (m % 256) (omega arith))
-    ∙ splice-splice p (m % 256 ∷ []) (bytes_of w (m / 256)) t (p + 1) refl (omega arith)
+module _ (w m i : ℕ) (b : List ℕ) where
+  pub number_more : i < w → i < length b → take (i + 1) (set b i (m % 256)) ++ bytes_of (w - (i + 1)) (m / 256) ≡ take i b ++ bytes_of (w - i) m
+  unfolding bytes_of
+  number_more h k =
+      let e : w - i ≡ suc (w - (i + 1)) = omega arith in
+      rw (e, add-one, take-suc-set b i (m % 256) k) (append_assoc (take i b) (m % 256 ∷ []) (bytes_of (w - suc i) (m / 256)))
 
-pub number_more : (w m at i : ℕ) (t : List ℕ) → i < w → at + w ≤ length t
-    → splice (at + (i + 1)) (bytes_of (w - (i + 1)) (m / 256)) (set t (at + i) (m % 256)) ≡ splice (at + i) (bytes_of (w - i) m) t
-number_more w m at i t h k =
-    let e : at + (i + 1) ≡ at + i + 1 = omega arith in
-    let f : suc (w - (i + 1)) ≡ w - i = omega arith in
-    ap (λ (x : ℕ). splice x (bytes_of (w - (i + 1)) (m / 256)) (set t (at + i) (m % 256))) e
-    ∙ number_turn (w - (i + 1)) m (at + i) t (omega arith)
-    ∙ ap (λ (x : ℕ). splice (at + i) (bytes_of x m) t) f
-
-pub number_end : (w m p : ℕ) (t : List ℕ) → w ≡ 0 → t ≡ splice p (bytes_of w m) t
-unfolding bytes_of
-number_end w m p t e = splice_none p t ∙ ap (λ (x : ℕ). splice p (bytes_of x m) t) (sym e)
+  pub number_end : w ≤ i → length b ≤ i → b ≡ take i b ++ bytes_of (w - i) m
+  unfolding bytes_of
+  number_end h k =
+      let e : w - i ≡ 0 = omega arith in
+      rw e (sym (append-nil (take i b) ∙ take_all i b k))
 
 -- ---- the loop that writes a row
 

@@ -8,64 +8,60 @@ ghost use Rattle.ground.specs.Lists.{part, same};
 ghost use Rattle.codec.specs.Rows.{total, fields};
 ghost use Rattle.splices.specs.Bytes.{num, nums, bytes_of, bytes_of_all, splice};
 
-fn wide(x: u8) -> u32
-    ensures { (result ≡ x) × (result < 256) }
-{
-    x as u32
-}
-
 // Whether k bytes at `at` lie within n bytes.
 pub fn fits(n: usize, at: usize, k: usize) -> bool
     ensures { result ≡ leb (at + k) n }
 {
-    if n < at {
-        return false;
-    }
-    k <= n - at
+    at <= n && k <= n - at
 }
 
 // ---- reading
+
+// The N bytes at `at`.
+fn bytes_at<const N: usize>(t: &[u8], at: usize) -> [u8; N]
+    requires { at + N ≤ length t.now }
+    ensures { result ≡ part at N t.now }
+{
+    let mut out = [0; N];
+    read_bytes(&mut out, t, at);
+    out
+}
 
 pub fn read1(t: &[u8], at: usize) -> u32
     requires { at + 1 ≤ length t.now }
     ensures { result ≡ num (part at 1 t.now) }
 {
-    wide(t[at])
+    u32::from(t[at])
 }
 
 pub fn read2(t: &[u8], at: usize) -> u32
     requires { at + 2 ≤ length t.now }
     ensures { result ≡ num (part at 2 t.now) }
 {
-    wide(t[at]) + 256 * wide(t[at + 1])
+    u32::from(u16::from_le_bytes(bytes_at(t, at)))
 }
 
 pub fn read4(t: &[u8], at: usize) -> u32
     requires { at + 4 ≤ length t.now }
     ensures { result ≡ num (part at 4 t.now) }
 {
-    wide(t[at]) + 256 * wide(t[at + 1]) + 65536 * wide(t[at + 2]) + 16777216 * wide(t[at + 3])
+    u32::from_le_bytes(bytes_at(t, at))
 }
 
 pub fn read8(t: &[u8], at: usize) -> u64
     requires { at + 8 ≤ length t.now }
     ensures { result ≡ num (part at 8 t.now) }
 {
-    let low = read4(t, at) as u64;
-    let high = read4(t, at + 4) as u64;
-    low + 4294967296 * high
+    u64::from_le_bytes(bytes_at(t, at))
 }
 
 // The bytes at `at`, as many as there is room for.
+#[tactic(auto, using(ground::proofs::Std::words))]
 pub fn read_bytes(out: &mut [u8], t: &[u8], at: usize)
     requires { at + length out.old ≤ length t.now }
     ensures { out.new ≡ part at (length out.old) t.now }
 {
-    let mut i = 0;
-    while i < out.len() {
-        out[i] = t[at + i];
-        i += 1;
-    }
+    out.copy_from_slice(&t[at..at + out.len()]);
 }
 
 // The numbers of 8 bytes each at `at`, as many as there is room for.
@@ -73,10 +69,8 @@ pub fn read_numbers(out: &mut [u64], t: &[u8], at: usize)
     requires { at + 8 * length out.old ≤ length t.now }
     ensures { out.new ≡ nums 8 (length out.old) (part at (8 * length out.old) t.now) }
 {
-    let mut i = 0;
-    while i < out.len() {
-        out[i] = read8(t, at + 8 * i);
-        i += 1;
+    for (i, n) in out.iter_mut().enumerate() {
+        *n = read8(t, at + 8 * i);
     }
 }
 
@@ -93,29 +87,22 @@ pub fn write4(t: &mut [u8], at: usize, n: u32)
     requires { at + 4 ≤ length t.old }
     ensures { t.new ≡ splice at (bytes_of 4 n) t.old }
 {
-    t[at] = (n % 256) as u8;
-    t[at + 1] = (n / 256 % 256) as u8;
-    t[at + 2] = (n / 256 / 256 % 256) as u8;
-    t[at + 3] = (n / 256 / 256 / 256 % 256) as u8;
+    write_bytes(t, at, &n.to_le_bytes());
 }
 
 pub fn write8(t: &mut [u8], at: usize, n: u64)
     requires { at + 8 ≤ length t.old }
     ensures { t.new ≡ splice at (bytes_of 8 n) t.old }
 {
-    write4(t, at, (n % 4294967296) as u32);
-    write4(t, at + 4, (n / 4294967296) as u32);
+    write_bytes(t, at, &n.to_le_bytes());
 }
 
+#[tactic(auto, unfolding(splices::specs::Bytes::splice))]
 pub fn write_bytes(t: &mut [u8], at: usize, s: &[u8])
     requires { at + length s.now ≤ length t.old }
     ensures { t.new ≡ splice at s.now t.old }
 {
-    let mut i = 0;
-    while i < s.len() {
-        t[at + i] = s[i];
-        i += 1;
-    }
+    t[at..at + s.len()].copy_from_slice(s);
 }
 
 // Numbers of 8 bytes each, one after the other.
@@ -123,50 +110,42 @@ pub fn write_numbers(t: &mut [u8], at: usize, s: &[u64])
     requires { at + 8 * length s.now ≤ length t.old }
     ensures { t.new ≡ splice at (bytes_of_all 8 s.now) t.old }
 {
-    let mut i = 0;
-    while i < s.len() {
-        write8(t, at + 8 * i, s[i]);
-        i += 1;
+    for (i, &n) in s.iter().enumerate() {
+        write8(t, at + 8 * i, n);
     }
 }
 
 // 1 for a flag that is set, else 0.
+#[tactic(auto, unfolding(ground::specs::Choice::one))]
 pub fn flag_number(b: bool) -> u32
     ensures { result ≡ one b }
 {
-    if b { 1 } else { 0 }
+    u32::from(b)
 }
 
 // ---- testing
 
 // Whether the bytes at `at` are those of s.
+#[tactic(auto, using(ground::proofs::Std::words))]
 pub fn same_at<'a>(s: &'a [u8], t: &'a [u8], at: usize) -> bool
     requires { at + length s.now ≤ length t.now }
     ensures { result ≡ same s.now (part at (length s.now) t.now) }
 {
-    let mut i = 0;
-    while i < s.len() {
-        if s[i] != t[at + i] {
-            return false;
-        }
-        i += 1;
-    }
-    true
+    s == &t[at..at + s.len()]
 }
 
 // ---- rows
 
 // n's lowest w bytes.
+#[tactic(auto, unfolding(splices::specs::Bytes::splice))]
 pub fn write_number(t: &mut [u8], at: usize, w: usize, n: u64)
     requires { at + w ≤ length t.old }
     ensures { t.new ≡ splice at (bytes_of w n) t.old }
 {
-    let mut m = n;
-    let mut i = 0;
-    while i < w {
-        t[at + i] = (m % 256) as u8;
-        m = m / 256;
-        i += 1;
+    let mut rest = n;
+    for byte in &mut t[at..at + w] {
+        *byte = (rest % 256) as u8;
+        rest /= 256;
     }
 }
 
@@ -176,17 +155,16 @@ pub fn write_row<'a>(t: &mut [u8], at: usize, widths: &'a [u8], numbers: &'a [u6
     ensures { t.new ≡ splice at (fields widths.now numbers.now) t.old }
 {
     let mut p = at;
-    let mut i = 0;
-    while i < widths.len() {
-        let w = widths[i] as usize;
-        write_number(t, p, w, numbers[i]);
+    for (&w, &n) in widths.iter().zip(numbers) {
+        let w = usize::from(w);
+        write_number(t, p, w, n);
         p += w;
-        i += 1;
     }
 }
 
+#[tactic(auto, unfolding(ground::specs::Choice::one))]
 pub fn flag_cell(b: bool) -> u64
     ensures { result ≡ one b }
 {
-    if b { 1 } else { 0 }
+    u64::from(b)
 }

@@ -6,7 +6,7 @@ use mathlib.Core.Bool.{Bool, true, false}
 use mathlib.Core.List.{List, [], ◌∷◌, ◌++◌, append-nil, map}
 use mathlib.Core.Logic.{⊎_elim}
 use Prim.Native.Nat.{ℕ, zero, suc, ◌+◌, ◌≤◌, ◌<◌}
-use native.Mathlib.Nat.{not-suc-le-zero, le_of_suc-le-suc, le_refl}
+use native.Mathlib.Nat.{not-suc-le-zero, le_of_suc-le-suc}
 use native.Mathlib.Numerals.{add-one}
 use native.Mathlib.Omega.{arith}
 use borrow.Author.Count.{below_more}
@@ -200,39 +200,10 @@ one_not_none l x e k = let z : ◌≡◌ {A = ℕ} 0 1 = cc in omega arith
 pub differ_lists : (a b : List ℕ) → (a ≡ b → ⊥) → false ≡ same a b
 differ_lists a b n = sym (refuted (same a b) (λ e. n (same-eq a b e)))
 
-pub differ_length : (a b : List ℕ) → (length a ≡ length b → ⊥) → false ≡ same a b
-differ_length a b n = differ_lists a b (λ e. n (ap length e))
-
 pub differ_at : (a b : List ℕ) (i : ℕ) → (get_or a i 0 ≡ get_or b i 0 → ⊥) → false ≡ same a b
 differ_at a b i n = differ_lists a b (λ e. n (ap (λ (l : List ℕ). get_or l i 0) e))
 
 -- ---- one list laid over another
-
-copy_suc : (i : ℕ) (s d : List ℕ) → i < length s → i < length d
-    → set (take i s ++ drop i d) i (get_or s i 0) ≡ take (suc i) s ++ drop (suc i) d
-copy_suc i [] d p q = absurd (not-suc-le-zero p)
-copy_suc i (x ∷ s) [] p q = absurd (not-suc-le-zero q)
-copy_suc zero (x ∷ s) (y ∷ d) p q = refl
-copy_suc (suc i) (x ∷ s) (y ∷ d) p q =
-    ap (λ (l : List ℕ). x ∷ l) (copy_suc i s d (le_of_suc-le-suc p) (le_of_suc-le-suc q))
-
-module _ (i : ℕ) (s d : List ℕ) where
-  pub copy_more : i < length s → i < length d → set (take i s ++ drop i d) i (get_or s i 0) ≡ take (i + 1) s ++ drop (i + 1) d
-  copy_more p q = rw (add-one i) (copy_suc i s d p q)
-
-  -- all of the source is copied
-  pub copy_all : i ≡ length s → i ≤ length d → take i s ++ drop i d ≡ overlay s d
-  unfolding overlay
-  copy_all p q =
-      rw (p) (ap (λ (l : List ℕ). l ++ drop (length s) d) (take_all (length s) s (le_refl (length s))
-      ∙ sym (take_all (length d) s (omega arith))))
-
-  -- all of the room is filled
-  pub copy_full : i ≡ length d → i ≤ length s → take i s ++ drop i d ≡ overlay s d
-  unfolding overlay
-  copy_full p q =
-      rw (p) (ap (λ (l : List ℕ). take (length d) s ++ l) (drop_of_length-le d (le_refl (length d))
-      ∙ sym (drop_of_length-le d {i = length s} (omega arith))))
 
 pub overlay-length : (v l : List ℕ) → length (overlay v l) ≡ length l
 unfolding overlay

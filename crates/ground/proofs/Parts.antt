@@ -4,7 +4,7 @@ use mathlib.Core.Path.{◌≡◌, refl, sym, ap, ◌∙◌}
 use mathlib.Core.List.{List, [], ◌∷◌, ◌++◌, append_assoc}
 use mathlib.Core.Logic.{⊎_elim}
 use Prim.Native.Nat.{ℕ, zero, suc, ◌+◌, ◌-◌, ◌≤◌, ◌<◌, min}
-use native.Mathlib.Nat.{add_assoc, zero-min, min-zero, suc-min-suc, not-suc-le-zero, le_of_suc-le-suc}
+use native.Mathlib.Nat.{zero-min, min-zero, suc-min-suc, not-suc-le-zero, le_of_suc-le-suc}
 use native.Mathlib.Numerals.{add-one}
 use native.Mathlib.Omega.{arith}
 use lib.ListN.{length, take, drop, get_or, replicate, length-append, length-take, length-drop, take-append-drop, drop_of_length-le}
@@ -144,23 +144,6 @@ part_between x v y l at n e f g =
 module _ (l : List ℕ) (at : ℕ) where
   pub part1 : at + 1 ≤ length l → part at 1 l ≡ get_or l at 0 ∷ []
   part1 h = part-suc l at 0 (omega arith) ∙ ap (λ (r : List ℕ). get_or l at 0 ∷ r) (part-zero l (at + 1))
-
-  pub part2 : at + 2 ≤ length l → part at 2 l ≡ get_or l at 0 ∷ get_or l (at + 1) 0 ∷ []
-  part2 h =
-      rw part-zero at (simp add_assoc at (
-      part-suc l at 1 (omega arith)
-      ∙ ap (λ (r : List ℕ). get_or l at 0 ∷ r) (part-suc l (at + 1) 0 (omega arith))))
-
-  pub part4 : at + 4 ≤ length l → part at 4 l ≡ get_or l at 0 ∷ get_or l (at + 1) 0 ∷ get_or l (at + 2) 0 ∷ get_or l (at + 3) 0 ∷ []
-  part4 h =
-      rw part-zero at (simp add_assoc at (
-      part-suc l at 3 (omega arith)
-      ∙ ap (λ (r : List ℕ). get_or l at 0 ∷ r)
-      (part-suc l (at + 1) 2 (omega arith)
-      ∙ ap (λ (r : List ℕ). get_or l (at + 1) 0 ∷ r)
-      (part-suc l (at + 1 + 1) 1 (omega arith)
-      ∙ ap (λ (r : List ℕ). get_or l (at + 1 + 1) 0 ∷ r)
-      (part-suc l (at + 1 + 1 + 1) 0 (omega arith))))))
 
 -- an array that was filled with the elements from `at` on is that part
 pub filled_part : (l out : List ℕ) (at n : ℕ) → at + n ≤ length l → length out ≡ n

@@ -1,13 +1,13 @@
 -- What the characters and the numbers written in them keep: by cases on the tests, and by the laws of every base.
 -- Assumes nothing.
 use mathlib.Core.Path.{◌≡◌, refl, sym, ◌∙◌}
-use mathlib.Core.Bool.{Bool, true, false}
+use mathlib.Core.Bool.{Bool, true, false, ◌&&◌, ◌||◌}
 use mathlib.Core.List.{List, [], ◌∷◌, ◌++◌}
 use Prim.Native.Nat.{ℕ, suc, ◌+◌, ◌-◌, ◌*◌, ◌/◌, ◌%◌, ◌^◌, ◌≤◌, ◌<◌}
 use mathlib.Core.Logic.{⊎_elim}
 use native.Mathlib.Omega.{arith}
 use borrow.Author.Tests.{eqb-true}
-use lib.Dec.{eqb}
+use lib.Dec.{eqb, leb}
 use lib.ListN.{length, length-append, length-take, length-replicate}
 use Rattle.ground.specs.Choice.{both, either, fails, pick, between}
 use Rattle.ground.specs.Lists.{all, member}
@@ -35,12 +35,12 @@ field_lt x f =
 -- ---- the internal code
 
 -- of a byte: two ranges, the blank and the first mark
-abbrev ranges : ℕ → Bool
-ranges x = either (between 0x41 0x5A x) (either (between 0x28 0x3E x) (either (eqb x 0x20) (eqb x 0x25)))
+abbrev pub ranges : ℕ → Bool
+ranges x = (leb 0x41 x && leb x 0x5A) || (leb 0x28 x && leb x 0x3E) || eqb x 0x20 || eqb x 0x25
 
-pub field_ranges : (x : ℕ) → x < 256 → field_character x ≡ ranges x
+pub field_is : (x : ℕ) → x < 256 → field_character x ≡ ranges x
 unfolding field_character both either fails pick between member
-field_ranges x h =
+field_is x h =
     agreed (field_character x) (ranges x)
     (each (λ k. pick (field_character k) (ranges k) (fails (ranges k))) 256 tt x h)
 

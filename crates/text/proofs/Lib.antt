@@ -2,3 +2,4 @@
 pub mod Base
 pub mod Laws
 pub mod Lists
+pub mod Bases

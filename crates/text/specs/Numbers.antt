@@ -42,3 +42,19 @@ hex_digits (suc n) x = hex_digits n (x / 16) ++ (hex_character (x % 16) ∷ [])
 unfoldable pub decimal_digits : ℕ → ℕ → List ℕ
 decimal_digits zero x = []
 decimal_digits (suc n) x = decimal_digits n (x / 10) ++ ((0x30 + x % 10) ∷ [])
+
+-- ---- the same in any base to sixteen
+
+-- what a digit of the base b counts, 0-9 and then A-F; any other character counts 0
+unfoldable pub value_in : ℕ → ℕ → ℕ
+value_in b c = pick (ltb (hex_value c) b) (hex_value c) 0
+
+-- acc followed by the digits of l
+unfoldable pub number_from : ℕ → ℕ → List ℕ → ℕ
+number_from b acc [] = acc
+number_from b acc (c ∷ l) = number_from b (acc * b + value_in b c) l
+
+-- the n lowest digits of x
+unfoldable pub digits_in : ℕ → ℕ → ℕ → List ℕ
+digits_in b zero x = []
+digits_in b (suc n) x = digits_in b n (x / b) ++ (hex_character (x % b) ∷ [])

@@ -2,191 +2,137 @@
 
 #![tactic(auto)]
 
-ghost use Rattle.std.specs.Prelude.{◌≡◌, ◌%◌, length, take, replicate};
-ghost use Rattle.ground.specs.Choice.{between};
+ghost use Rattle.std.specs.Prelude.{◌≡◌, ◌^◌, ◌<◌, ◌≤◌, length, take, replicate};
 ghost use Rattle.ground.specs.Lists.{all, same, overlay};
 ghost use Rattle.text.specs.Characters.{blank, digit, field_character, internal, hex_digit, all_blank, padded};
-ghost use Rattle.text.specs.Numbers.{digit_value, hex_value, decimal, hex, hex_character, hex_digits, decimal_digits};
-
-// Whether a byte lies from `low` to `high`.
-fn lies(low: u8, high: u8, b: u8) -> bool
-    ensures { result ≡ between low high b }
-{
-    low <= b && b <= high
-}
+ghost use Rattle.text.specs.Numbers.{decimal, hex, hex_character, hex_digits, decimal_digits, value_in, number_from, digits_in};
 
 // The byte of the internal code.
+#[tactic(auto, using(ground::proofs::Std::words), unfolding(crate::specs::Characters::internal))]
 pub fn internal_code(b: u8) -> u8
     ensures { result ≡ internal b }
 {
-    if lies(0x61, 0x7A, b) {
-        return b - 0x20;
+    match b {
+        b'a'..=b'z' => b - 0x20,
+        _ if is_field_character(b) => b,
+        _ => b' ',
     }
-    if is_field_character(b) {
-        return b;
-    }
-    0x20
 }
 
 // A to Z, 0 to 9, blank and the marks.
+#[tactic(auto, using(crate::proofs::Laws::field_is))]
 pub fn is_field_character(b: u8) -> bool
     ensures { result ≡ field_character b }
 {
-    if lies(0x41, 0x5A, b) {
-        return true;
-    }
-    if lies(0x28, 0x3E, b) {
-        return true;
-    }
-    b == 0x20 || b == 0x25
+    matches!(b, b'A'..=b'Z' | b'('..=b'>' | b' ' | b'%')
 }
 
+#[tactic(auto, using(ground::proofs::Std::words))]
 pub fn is_digit(b: u8) -> bool
     ensures { result ≡ digit b }
 {
-    lies(0x30, 0x39, b)
+    b.is_ascii_digit()
 }
 
+#[tactic(auto, using(ground::proofs::Std::words), unfolding(crate::specs::Characters::hex_digit))]
 pub fn is_hex_digit(b: u8) -> bool
     ensures { result ≡ hex_digit b }
 {
-    if is_digit(b) {
-        return true;
-    }
-    lies(0x41, 0x46, b)
+    matches!(b, b'0'..=b'9' | b'A'..=b'F')
 }
 
 // Whether each character is a field character, a digit, a hex digit, a blank.
 pub fn all_field_characters(s: &[u8]) -> bool
     ensures { result ≡ all field_character s.now }
 {
-    let mut i = 0;
-    while i < s.len() {
-        if !is_field_character(s[i]) {
-            return false;
-        }
-        i += 1;
-    }
-    true
+    s.iter().all(|&b| is_field_character(b))
 }
 
 pub fn all_digits(s: &[u8]) -> bool
     ensures { result ≡ all digit s.now }
 {
-    let mut i = 0;
-    while i < s.len() {
-        if !is_digit(s[i]) {
-            return false;
-        }
-        i += 1;
-    }
-    true
+    s.iter().all(|&b| is_digit(b))
 }
 
 pub fn all_hex_digits(s: &[u8]) -> bool
     ensures { result ≡ all hex_digit s.now }
 {
-    let mut i = 0;
-    while i < s.len() {
-        if !is_hex_digit(s[i]) {
-            return false;
-        }
-        i += 1;
-    }
-    true
+    s.iter().all(|&b| is_hex_digit(b))
 }
 
 pub fn all_blank(s: &[u8]) -> bool
     ensures { result ≡ all_blank s.now }
 {
-    let mut i = 0;
-    while i < s.len() {
-        if s[i] != 0x20 {
-            return false;
-        }
-        i += 1;
-    }
-    true
+    s.iter().all(|&b| b == b' ')
 }
 
-// What a digit counts; any other character counts 0.
-fn digit_value(b: u8) -> u64
-    ensures { result ≡ digit_value b }
+// What a digit of the base counts, 0-9 and then A-F; any other character counts 0.
+#[tactic(auto, using(ground::proofs::Std::words), unfolding(crate::specs::Numbers::value_in, crate::specs::Numbers::hex_value, crate::specs::Characters::hex_digit))]
+fn digit_value<const BASE: u64>(b: u8) -> u64
+    ensures { result ≡ value_in BASE b }
 {
-    if is_digit(b) {
-        return (b - 0x30) as u64;
-    }
-    0
+    let value = match b {
+        b'0'..=b'9' => u64::from(b - b'0'),
+        b'A'..=b'F' => u64::from(b - b'A' + 10),
+        _ => 0,
+    };
+    if value < BASE { value } else { 0 }
 }
 
-// The same of a hex digit.
-fn hex_value(b: u8) -> u64
-    ensures { result ≡ hex_value b }
+// The number that digits of the base write.
+fn number_in<const BASE: u64>(s: &[u8]) -> u64
+    requires base { (0 < BASE) × (BASE ≤ 16) }
+    requires fits { BASE ^ length s.now ≤ 2 ^ 64 }
+    ensures { result ≡ number_from BASE 0 s.now }
 {
-    if is_digit(b) {
-        return (b - 0x30) as u64;
+    let mut n = 0;
+    for &b in s {
+        n = n * BASE + digit_value::<BASE>(b);
     }
-    if is_hex_digit(b) {
-        return (b - 0x37) as u64;
-    }
-    0
+    n
 }
 
 // The number that digits write: of the first nineteen characters, which always fits.
 pub fn number(s: &[u8]) -> u64
     ensures { result ≡ decimal (take 19 s.now) }
 {
-    let mut n: u64 = 0;
-    let mut i = 0;
-    while i < s.len() {
-        if i == 19 {
-            return n;
-        }
-        n = n * 10 + digit_value(s[i]);
-        i += 1;
-    }
-    n
+    number_in::<10>(&s[..s.len().min(19)])
 }
 
 // The number that hex digits write: of the first sixteen characters, which always fits.
 pub fn hex_number(s: &[u8]) -> u64
     ensures { result ≡ hex (take 16 s.now) }
 {
-    let mut n: u64 = 0;
-    let mut i = 0;
-    while i < s.len() {
-        if i == 16 {
-            return n;
-        }
-        n = n * 16 + hex_value(s[i]);
-        i += 1;
-    }
-    n
+    number_in::<16>(&s[..s.len().min(16)])
 }
 
-// The character of the lowest hex digit of a number.
-fn hex_character(x: u64) -> u8
-    ensures { result ≡ hex_character (x % 16) }
+// The character of a number below 16.
+#[tactic(auto, using(ground::proofs::Std::words), unfolding(crate::specs::Numbers::hex_character))]
+fn character(v: u8) -> u8
+    requires { v < 16 }
+    ensures { result ≡ hex_character v }
 {
-    let v = (x % 16) as u8;
-    if v < 10 {
-        return 0x30 + v;
+    if v < 10 { b'0' + v } else { b'A' - 10 + v }
+}
+
+// The lowest digits of a number in the base, as many as there is room for.
+fn write_in<const BASE: u64>(out: &mut [u8], x: u64)
+    requires { (0 < BASE) × (BASE ≤ 16) }
+    ensures { out.new ≡ digits_in BASE (length out.old) x }
+{
+    let mut rest = x;
+    for i in (0..out.len()).rev() {
+        out[i] = character((rest % BASE) as u8);
+        rest /= BASE;
     }
-    0x37 + v
 }
 
 // The sixteen hex digits of a number.
 pub fn hex_digits(x: u64) -> [u8; 16]
     ensures { result ≡ hex_digits 16 x }
 {
-    let mut out = [0u8; 16];
-    let mut rest = x;
-    let mut i = 16;
-    while 0 < i {
-        i -= 1;
-        out[i] = hex_character(rest);
-        rest = rest / 16;
-    }
+    let mut out = [0; 16];
+    write_in::<16>(&mut out, x);
     out
 }
 
@@ -194,53 +140,29 @@ pub fn hex_digits(x: u64) -> [u8; 16]
 pub fn write_number(out: &mut [u8], x: u64)
     ensures { out.new ≡ decimal_digits (length out.old) x }
 {
-    let mut rest = x;
-    let mut i = out.len();
-    while 0 < i {
-        i -= 1;
-        out[i] = 0x30 + (rest % 10) as u8;
-        rest = rest / 10;
-    }
+    write_in::<10>(out, x);
 }
 
+#[tactic(auto, using(ground::proofs::Std::words))]
 pub fn same_bytes(a: &[u8], b: &[u8]) -> bool
     ensures { result ≡ same a.now b.now }
 {
-    if a.len() != b.len() {
-        return false;
-    }
-    let mut i = 0;
-    while i < a.len() {
-        if a[i] != b[i] {
-            return false;
-        }
-        i += 1;
-    }
-    true
+    a == b
 }
 
 // `src` written over the start of `dst`, as far as both go.
+#[tactic(auto, unfolding(ground::specs::Lists::overlay))]
 pub fn copy(dst: &mut [u8], src: &[u8])
     ensures { dst.new ≡ overlay src.now dst.old }
 {
-    let mut at = 0;
-    while at < dst.len() {
-        if src.len() <= at {
-            return;
-        }
-        dst[at] = src[at];
-        at += 1;
-    }
+    let n = dst.len().min(src.len());
+    dst[..n].copy_from_slice(&src[..n]);
 }
 
 pub fn fill_blank(dst: &mut [u8])
     ensures { dst.new ≡ replicate (length dst.old) blank }
 {
-    let mut i = 0;
-    while i < dst.len() {
-        dst[i] = 0x20;
-        i += 1;
-    }
+    dst.fill(b' ');
 }
 
 // A name in its field: blanks after it, and what is over cut.

@@ -6,5 +6,4 @@ use Rattle.codec.proofs.read1.Goals as goal
 
 pub returns : goal.returns
 unfolding num
-returns c =
-    rw (part1 c.args.t.now c.args.at c.requires) (omega arith)
+returns c = rw (part1 c.args.t.now c.args.at c.requires) (omega (arith, c.from.ensures))

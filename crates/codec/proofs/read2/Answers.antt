@@ -1,10 +1,8 @@
--- The two bytes, each at its place.
-use native.Mathlib.Omega.{arith}
-use Rattle.ground.proofs.Parts.{part2}
-use Rattle.splices.specs.Bytes.{num}
+-- The two bytes as std reads them.
+use Rattle.std.proofs.Common.{◌∙◌, arith}
+use Rattle.std.specs.Int.{w16}
+use Rattle.splices.proofs.Std.{read_is}
 use Rattle.codec.proofs.read2.Goals as goal
 
 pub returns : goal.returns
-unfolding num
-returns c =
-    rw (part2 c.args.t.now c.args.at c.requires) (omega arith)
+returns c = c.from.ensures ∙ c.from_le_bytes.ensures ∙ read_is w16 c.args.t.now _ c.args.at (omega arith) c.requires c.bytes_at.ensures

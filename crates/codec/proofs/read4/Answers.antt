@@ -1,10 +1,8 @@
--- The four bytes, each by its place.
-use native.Mathlib.Omega.{arith}
-use Rattle.ground.proofs.Parts.{part4}
-use Rattle.splices.specs.Bytes.{num}
+-- The four bytes as std reads them.
+use Rattle.std.proofs.Common.{◌∙◌, arith}
+use Rattle.std.specs.Int.{w32}
+use Rattle.splices.proofs.Std.{read_is}
 use Rattle.codec.proofs.read4.Goals as goal
 
 pub returns : goal.returns
-unfolding num
-returns c =
-    rw (part4 c.args.t.now c.args.at c.requires) (omega arith)
+returns c = c.from_le_bytes.ensures ∙ read_is w32 c.args.t.now _ c.args.at (omega arith) c.requires c.bytes_at.ensures

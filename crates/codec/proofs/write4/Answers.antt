@@ -1,19 +1,11 @@
--- Four stores, one past the other, are a splice.
-use native.Mathlib.Omega.{arith}
-use lib.ListN.{length-set}
-use Rattle.splices.proofs.Splice.{set4}
-use Rattle.splices.specs.Bytes.{bytes_of}
+-- The four bytes as std writes them.
+use Rattle.std.proofs.Common.{◌∙◌, sym, ap, List, ℕ}
+use Rattle.std.specs.Int.{w32}
+use Rattle.splices.specs.Bytes.{splice}
+use Rattle.splices.proofs.Std.{bytes_is}
 use Rattle.codec.proofs.write4.Goals as goal
 
-pub bounds-t-at-2 : goal.bounds-t-at-2
-bounds-t-at-2 c = simp length-set (omega arith)
-
-pub bounds-t-at-3 : goal.bounds-t-at-3
-bounds-t-at-3 c = simp length-set (omega arith)
-
-pub bounds-t-at-4 : goal.bounds-t-at-4
-bounds-t-at-4 c = simp length-set (omega arith)
-
 pub returns : goal.returns
-unfolding bytes_of
-returns c = set4 c.args.t.now c.args.at _ _ _ _ c.requires
+returns c =
+    c.write_bytes.ensures
+    ∙ ap (λ (x : List ℕ). splice c.args.at x c.args.t.now) (c.to_le_bytes.ensures ∙ sym (bytes_is w32 c.args.n))

@@ -1,14 +1,11 @@
--- Two halves, one past the other.
-use mathlib.Core.Path.{◌∙◌}
-use native.Mathlib.Omega.{arith}
-use Rattle.splices.specs.Bytes.{bytes_of}
-use Rattle.splices.proofs.Splice.{put_fits}
-use Rattle.splices.proofs.Chunks.{twice_four, bytes_of-length}
+-- The eight bytes as std writes them.
+use Rattle.std.proofs.Common.{◌∙◌, sym, ap, List, ℕ}
+use Rattle.std.specs.Int.{w64}
+use Rattle.splices.specs.Bytes.{splice}
+use Rattle.splices.proofs.Std.{bytes_is}
 use Rattle.codec.proofs.write8.Goals as goal
 
 pub returns : goal.returns
 returns c =
-    let k = bytes_of-length 8 c.args.n in
-    twice_four c.args.at c.args.n c.args.t.now _ _ c.requires
-    c.write4.ensures c.write4-2.ensures
-    ∙ put_fits c.args.at (bytes_of 8 c.args.n) c.args.t.now (omega (arith, c.requires))
+    c.write_bytes.ensures
+    ∙ ap (λ (x : List ℕ). splice c.args.at x c.args.t.now) (c.to_le_bytes.ensures ∙ sym (bytes_is w64 c.args.n))

@@ -1,12 +1,10 @@
 use mathlib.Core.Path.{◌≡◌}
-use Prim.Native.Nat.{◌+◌, ◌≤◌, ◌-◌}
-use lib.ListN.{length}
-use Rattle.splices.specs.Bytes.{bytes_of, splice}
+use mathlib.Core.List.{◌++◌}
+use Prim.Native.Nat.{◌-◌}
+use lib.ListN.{take}
+use Rattle.splices.specs.Bytes.{bytes_of}
 use Rattle.codec.proofs.write_number.Given as goal
 
-abbrev pub invariant-loop-i : goal.invariant-loop-i
-invariant-loop-i l =
-    (l.i ≤ l.w) × (length l.t ≡ length l.initial.t) × (splice (l.at + l.i) (bytes_of (l.w - l.i) l.m) l.t ≡ splice l.at (bytes_of l.w l.n) l.initial.t)
-
-abbrev pub decreases-loop-i : goal.decreases-loop-i
-decreases-loop-i l = l.w - l.i
+-- the bytes that are written, and what is left of the number
+abbrev pub invariant-loop-byte : goal.invariant-loop-byte
+invariant-loop-byte l = take l.byte-index l.byte-items ++ bytes_of (l.w - l.byte-index) l.rest ≡ bytes_of l.w l.n

@@ -1,11 +1,7 @@
 use mathlib.Core.Path.{◌≡◌}
-use Prim.Native.Nat.{◌≤◌, ◌-◌}
 use lib.ListN.{length, take}
 use Rattle.splices.specs.Bytes.{bytes_of_all, splice}
 use Rattle.codec.proofs.write_numbers.Given as goal
 
 abbrev pub invariant-loop-i : goal.invariant-loop-i
-invariant-loop-i l = (l.i ≤ length l.s) × (length l.t ≡ length l.initial.t) × (l.t ≡ splice l.at (bytes_of_all 8 (take l.i l.s)) l.initial.t)
-
-abbrev pub decreases-loop-i : goal.decreases-loop-i
-decreases-loop-i l = length l.s - l.i
+invariant-loop-i l = (length l.t ≡ length l.initial.t) × (l.t ≡ splice l.at (bytes_of_all 8 (take l.i l.s)) l.initial.t)

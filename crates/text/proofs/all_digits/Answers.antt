@@ -1,28 +1,12 @@
--- The characters passed all meet the test, so what is left decides.
-use mathlib.Core.Path.{refl, sym, ◌∙◌}
-use Prim.Native.Nat.{◌-◌}
-use native.Mathlib.Omega.{arith}
-use borrow.Author.Tests.{not-true, not-false}
-use Rattle.ground.proofs.Lists.{all_more, all_stop, all_end}
+-- The chain asks the test of each.
+use Rattle.std.proofs.Common.{rules, tests, sym, ◌∙◌}
+use Rattle.std.proofs.lemmas.Iterator.{YieldsList-from_slice}
+use Rattle.std.proofs.lemmas.Iterator.Search.{all_from_yields_List}
+use Rattle.ground.proofs.Std.{all_is}
 use Rattle.text.specs.Characters.{digit}
 use Rattle.text.proofs.all_digits.Goals as goal
 
-pub loop-i-init : goal.loop-i-init
-loop-i-init c = (omega arith, refl)
-
-pub returns-then-not-is_digit : goal.returns-then-not-is_digit
-returns-then-not-is_digit c =
-    all_stop digit _ c.loop-i.i c.loop-i-test.true
-    (sym c.is_digit.ensures ∙ not-true _ c.if-not-is_digit.true-raw)
-    c.loop-i.invariant.1
-
-pub loop-i-preserved : goal.loop-i-preserved
-loop-i-preserved c = (
-  omega arith,
-  all_more digit _ c.loop-i.i c.loop-i-test.true
-      (sym c.is_digit.ensures ∙ not-false _ c.if-not-is_digit.false-raw)
-      c.loop-i.invariant.1,
-)
-
 pub returns : goal.returns
-returns c = all_end digit _ c.loop-i.i c.loop-i-test.false c.loop-i.invariant.1
+returns c =
+    all_from_yields_List digit _ _ _ c.all.ensures.ran (YieldsList-from_slice c.args.s.now cc) (λ x b q k. search (rules, tests))
+    ∙ sym (all_is digit _)

@@ -1,25 +1,6 @@
--- The digits still to be written, before those that are, are the digits of the number.
-use mathlib.Core.Path.{refl}
-use mathlib.Core.List.{append-nil}
-use native.Mathlib.Omega.{arith}
-use lib.ListN.{length-set}
-use Rattle.text.specs.Numbers.{hex_digits}
-use Rattle.text.proofs.Base.{write_more, write_end}
-use Rattle.text.proofs.Laws.{hexes}
+use mathlib.Core.Path.{◌∙◌}
+use Rattle.text.proofs.Bases.{hex_digits_is}
 use Rattle.text.proofs.hex_digits.Goals as goal
 
-pub loop-i-init : goal.loop-i-init
-loop-i-init c = (omega arith, refl, append-nil (hex_digits 16 c.args.x))
-
-pub loop-i-preserved : goal.loop-i-preserved
-loop-i-preserved c =
-    let l = c.loop-i in (
-      omega arith,
-      simp length-set l.invariant.1,
-      write_more hexes l.i l.rest _ l.out _ c.hex_character.ensures c.loop-i-test.true (omega arith) l.invariant.2,
-    )
-
 pub returns : goal.returns
-returns c =
-    let l = c.loop-i in
-    write_end hexes l.i l.rest l.out _ c.loop-i-test.false l.invariant.2
+returns c = c.write_in.ensures ∙ hex_digits_is 16 _
