@@ -3,7 +3,7 @@
 use mathlib.Core.Path.{◌≡◌, refl, sym, ap, ◌∙◌, subst}
 use mathlib.Core.Bool.{true, false}
 use mathlib.Core.Logic.{⊎_elim}
-use Prim.Native.Nat.{ℕ, min, ◌+◌, ◌-◌, ◌*◌, ◌/◌, ◌%◌, ◌≤◌, ◌<◌}
+use Prim.Native.Nat.{ℕ, min, ◌+◌, ◌-◌, ◌*◌, ◌%◌, ◌≤◌, ◌<◌}
 use native.Mathlib.Nat.{le_of_lt}
 use native.Mathlib.Omega.{arith}
 use borrow.Author.Tests.{ltb-true, ltb-false, lt-ltb, le-ltb}
@@ -266,13 +266,8 @@ later_keeps d e n r s h =
 
 -- ---- the number of any date, real or not
 
--- the number, by the years and months that lie before
-pub number_is : (d : ℕ) → years_before ((d / 10000 + 20) % 100) + months_before (year_of d) (month_of d) + day_of d - 1 ≡ day_number d
-unfolding day_number
-number_is d =
-    let e : year_of d - 1980 ≡ (d / 10000 + 20) % 100 = omega arith in
-    ap (λ (n : ℕ). years_before n + months_before (year_of d) (month_of d) + day_of d - 1) (sym e)
-
 pub number_below : (d : ℕ) → day_number d < 40000
 unfolding day_number
 number_below d = omega (arith, years_le (year_of d - 1980), months_le (year_of d) (month_of d))
+
+pub ruleset few_days = (years_le, months_le, number_below)

@@ -2,23 +2,21 @@
 -- Assumes nothing.
 use mathlib.Core.Path.{◌≡◌, refl, sym, ap, ◌∙◌}
 use mathlib.Core.Bool.{Bool}
-use mathlib.Core.List.{[], ◌∷◌}
-use mathlib.Core.Logic.{◌⊎◌, inl, inr, ⊎_elim}
+use mathlib.Core.Logic.{⊎_elim}
 use Prim.Native.Nat.{ℕ, zero, suc, ◌+◌, ◌-◌, ◌*◌, ◌%◌, ◌≤◌, ◌<◌}
 use native.Mathlib.Nat.{zero-add}
 use native.Mathlib.Numerals.{add-one}
 use native.Mathlib.Omega.{arith}
-use borrow.Author.Tests.{leb-true, eqb-true, ne_eqb, lt-ltb, le-ltb}
+use borrow.Author.Tests.{leb-true, lt-ltb, le-ltb}
 use lib.Dec.{leb, eqb, ltb}
 use lib.ListN.{get_or, get_or-eq_default}
-use Rattle.ground.specs.Choice.{both, either, fails, pick, one}
-use Rattle.ground.specs.Lists.{member}
+use Rattle.ground.specs.Choice.{both, pick, one}
 use Rattle.ground.proofs.Choices.{picks, skips}
 use Rattle.ground.proofs.Table.{at}
-use Rattle.ground.proofs.Bools.{one-le, tested, either-false, both_true}
+use Rattle.ground.proofs.Bools.{one-le, tested}
 use Rattle.ground.proofs.Numbers.{below}
 use Rattle.calendar.specs.Dates.{leap, lengths, days_in, days_in_year, years_before, months_before, in_year, from_year}
-use Rattle.calendar.proofs.Walk.{walk, most}
+use Rattle.calendar.proofs.Walk.{walk, most, here, on, over}
 
 -- ---- lengths
 
@@ -31,40 +29,6 @@ length-le m =
     ⊎_elim (λ h. leb-true _ 31 (tested _ (at short lengths tt m h)))
     (λ h. rw (get_or-eq_default lengths 0 h) (omega arith))
     (below m 13)
-
--- a month of the year that is neither February nor one of thirty days has thirty-one
-others : ℕ → ℕ → Bool
-others m n = either (member m (0 ∷ 2 ∷ 4 ∷ 6 ∷ 9 ∷ 11 ∷ [])) (eqb n 31)
-
-pub long : (y m : ℕ) → m ≤ 12 → (m ≡ 0 → ⊥) → (m ≡ 2 → ⊥) → ((m ≡ 4) ⊎ (m ≡ 6) ⊎ (m ≡ 9) ⊎ (m ≡ 11) → ⊥) → days_in y m ≡ 31
-unfolding days_in both either member others one
-long y m q z f t =
-    rw (ne_eqb m 2 f)
-    (ap (λ (x : ℕ). x + 0)
-    (eqb-true (get_or lengths m 0) 31
-    (tested (eqb (get_or lengths m 0) 31)
-    (rw (
-      ne_eqb 0 m (λ e. z (sym e)),
-      ne_eqb 2 m (λ e. f (sym e)),
-      ne_eqb 4 m (λ e. t (inl (sym e))),
-      ne_eqb 6 m (λ e. t (inr (inl (sym e)))),
-      ne_eqb 9 m (λ e. t (inr (inr (inl (sym e))))),
-      ne_eqb 11 m (λ e. t (inr (inr (inr (sym e))))),
-    )
-    at (at others lengths tt m (omega arith))))))
-
-pub beyond : (y m : ℕ) → 12 < m → days_in y m ≡ 0
-unfolding days_in both one
-beyond y m h = rw (ne_eqb m 2 (omega arith), get_or-eq_default lengths 0 h)
-
-pub february : (y : ℕ) (b : Bool) → leap y ≡ b → days_in y 2 ≡ 28 + one b
-unfolding days_in both
-february y b e = rw e
-
--- where no century is in the way, four decide
-pub by_four : (y : ℕ) → (y % 100 ≡ 0 → ⊥) → (y % 400 ≡ 0 → ⊥) → leap y ≡ eqb (y % 4) 0
-unfolding leap fails
-by_four y p q = rw (ne_eqb (y % 100) 0 p, ne_eqb (y % 400) 0 q) (either-false _ ∙ both_true (eqb (y % 4) 0))
 
 pub days_in-le : (y m : ℕ) → days_in y m ≤ 32
 unfolding days_in
@@ -153,3 +117,33 @@ in_year-le y (suc n) m k h =
     ⊎_elim (λ l. rw (picks _ _ _ (lt-ltb k (days_in y m) l)) (omega (arith, days_in-le y m)))
     (λ l. rw (skips _ _ _ (le-ltb k (days_in y m) l)) (in_year-le y n (m + 1) (k - days_in y m) (omega arith)))
     (below k (days_in y m))
+
+-- ---- what the loops over years and months stand on: the sums, and one more turn of each walk
+
+pub ruleset year_sums = (no_years, years_step, years_le, year_le)
+
+pub ruleset month_sums = (no_months, month_step, months_le, days_in-le)
+
+pub in_here : (y m k : ℕ) → m < 13 → k < days_in y m → in_year y m k (13 - m) ≡ month_day m k
+in_here y m k h p = in_walk y (13 - m) m k ∙ here (days_in y) month_day 1231 m k 13 h p
+
+pub in_on : (y m k : ℕ) → m < 13 → days_in y m ≤ k → in_year y m k (13 - m) ≡ in_year y (m + 1) (k - days_in y m) (13 - (m + 1))
+in_on y m k h p =
+    in_walk y (13 - m) m k ∙ on (days_in y) month_day 1231 m k 13 h p ∙ sym (in_walk y (13 - (m + 1)) (m + 1) (k - days_in y m))
+
+pub in_over : (y m k : ℕ) → 13 ≤ m → in_year y m k (13 - m) ≡ 1231
+in_over y m k h = in_walk y (13 - m) m k ∙ over (days_in y) month_day 1231 m k 13 h
+
+pub ruleset month_walk = (in_here, in_on, in_over, days_in-le)
+
+pub from_here : (y k : ℕ) → y < 2080 → k < days_in_year y → from_year y k (2080 - y) ≡ year_date y k
+from_here y k h p = from_walk (2080 - y) y k ∙ here days_in_year year_date 791231 y k 2080 h p
+
+pub from_on : (y k : ℕ) → y < 2080 → days_in_year y ≤ k → from_year y k (2080 - y) ≡ from_year (y + 1) (k - days_in_year y) (2080 - (y + 1))
+from_on y k h p =
+    from_walk (2080 - y) y k ∙ on days_in_year year_date 791231 y k 2080 h p ∙ sym (from_walk (2080 - (y + 1)) (y + 1) (k - days_in_year y))
+
+pub from_over : (y k : ℕ) → 2080 ≤ y → from_year y k (2080 - y) ≡ 791231
+from_over y k h = from_walk (2080 - y) y k ∙ over days_in_year year_date 791231 y k 2080 h
+
+pub ruleset year_walk = (from_here, from_on, from_over, in_year-le)

@@ -37,6 +37,23 @@ module _ (hs : List ℕ) where
   unfolding banking_among
   up_none t k h = let s : t - k ≡ zero = omega arith in rw s
 
+  -- the same, as the loops count
+  pub up_one : (t k : ℕ) → k < t → banking_day hs (k + 1) ≡ true → up_to t k ≡ 1 + up_to t (k + 1)
+  unfolding one
+  up_one t k h e = up_by t k true h e
+
+  pub up_same : (t k : ℕ) → k < t → banking_day hs (k + 1) ≡ false → up_to t k ≡ up_to t (k + 1)
+  unfolding one
+  up_same t k h e = omega (arith, up_by t k false h e)
+
+  pub back_one : (t k : ℕ) → 0 < k → k ≤ t → banking_day hs k ≡ true → up_to t (k - 1) ≡ 1 + up_to t k
+  unfolding one
+  back_one t k p h e = up_back t k true p h e
+
+  pub back_same : (t k : ℕ) → 0 < k → k ≤ t → banking_day hs k ≡ false → up_to t (k - 1) ≡ up_to t k
+  unfolding one
+  back_same t k p h e = omega (arith, up_back t k false p h e)
+
   among_more : (n k j : ℕ) → banking_among hs k n ≤ banking_among hs k (n + j)
   unfolding banking_among
   among_more zero k j = omega arith
@@ -105,6 +122,15 @@ module _ (hs : List ℕ) where
   first-zero t p =
       let b : first t ≤ 0 = ltb-false 0 (first t) (sym (splits t 0) ∙ le-ltb 5 (up_to t 0) p) in omega arith
 
+  -- a date is too old where a sixth banking day lies after it, and else not
+  pub six_after : (s t : Date) → 5 < up_to (day_number t.yymmdd) (day_number s.yymmdd) → too_old hs s t ≡ true
+  unfolding too_old banking_days_after
+  six_after s t h = lt-ltb 5 _ h
+
+  pub few_after : (s t : Date) → up_to (day_number t.yymmdd) (day_number s.yymmdd) ≤ 5 → too_old hs s t ≡ false
+  unfolding too_old banking_days_after
+  few_after s t h = le-ltb 5 _ h
+
   pub old_by_days : (s t : Date)
       → too_old hs s t ≡ ltb (day_number s.yymmdd) (first_good hs (day_number t.yymmdd) 0 (day_number t.yymmdd))
   unfolding too_old banking_days_after
@@ -143,3 +169,7 @@ too_old_earliest hs s t r q =
     let l : k < 36525 = omega (arith, first-le hs (day_number t.yymmdd), day_number-lt t.yymmdd q) in
     old_by_days hs s t
     ∙ sym (earlier_days s.yymmdd (date_of k) r (date_real k) ∙ ap (ltb (day_number s.yymmdd)) (day_of_date k l))
+
+pub ruleset ahead = (up_one, up_same, up_none, six_after, few_after)
+
+pub ruleset back = (back_one, back_same, up_none, first_is, first-zero)

@@ -3,28 +3,28 @@
 #![tactic(auto)]
 
 ghost use Rattle.std.specs.Prelude.{◌≡◌, ◌+◌, ◌<◌};
-ghost use Rattle.ground.specs.Lists.{member};
-ghost use Rattle.calendar.specs.Dates.{leap, days_in, days_in_year, real_time, place_in_order, is_real, is_before, years_before};
+ghost use Rattle.calendar.specs.Dates.{leap, days_in, days_in_year, real_time, place_in_order, is_real, is_before, year_of, month_of, day_of, years_before};
 ghost use Rattle.calendar.specs.Dates.{months_before, day_number, in_year, date_of, later};
-ghost use Rattle.calendar.specs.Banking.{weekday, banking_day, more_than, too_old, first_good, earliest_good};
+ghost use Rattle.calendar.specs.Banking.{weekday, banking_day, too_old, first_good, earliest_good};
 
-// A date as it is written, yymmdd.
-#[derive(Clone, Copy)]
+// A date as it is written, yymmdd. The order of dates is `before`, and not that of the numbers.
+#[derive(Clone, Copy, Debug, PartialEq, Eq)]
 pub struct Date {
     pub yymmdd: u32,
 }
 
 // The two counts, which are never added together or compared: a date is moved on by the one, and its age is told by the other.
-#[derive(Clone, Copy)]
+#[derive(Clone, Copy, Debug, PartialEq, Eq, PartialOrd, Ord)]
 pub struct CalendarDays(pub u32);
 
-#[derive(Clone, Copy)]
+#[derive(Clone, Copy, Debug, PartialEq, Eq, PartialOrd, Ord)]
 pub struct BankingDays(pub u32);
 
 // A stamp is too old once more banking days than these lie after its date.
 const TOO_OLD_AFTER: BankingDays = BankingDays(5);
 
 // Whether a time hhmmss is real.
+#[tactic(auto, unfolding(crate::specs::Dates::real_time, ground::specs::Choice::both))]
 pub fn is_real_time(hhmmss: u32) -> bool
     ensures { result ≡ real_time hhmmss }
 {
@@ -32,123 +32,100 @@ pub fn is_real_time(hhmmss: u32) -> bool
 }
 
 // Whether a year is a leap year.
+#[tactic(auto, unfolding(crate::specs::Dates::leap, ground::specs::Choice::both, ground::specs::Choice::either, ground::specs::Choice::fails))]
 fn is_leap(y: u64) -> bool
     ensures { result ≡ leap y }
 {
-    if y % 400 == 0 {
-        return true;
-    }
-    if y % 100 == 0 {
-        return false;
-    }
-    y % 4 == 0
+    (y % 4 == 0 && y % 100 != 0) || y % 400 == 0
 }
 
 // The days of month m of the year y; a month that is none has no days.
+#[tactic(auto, unfolding(crate::specs::Dates::days_in, ground::specs::Choice::both, ground::specs::Choice::one))]
 fn days_in(y: u64, m: u64) -> u64
     ensures { result ≡ days_in y m }
 {
     match m {
-        0 => 0,
-        2 => { if is_leap(y) { 29 } else { 28 } }
+        2 if is_leap(y) => 29,
+        2 => 28,
         4 | 6 | 9 | 11 => 30,
-        _ => { if m <= 12 { 31 } else { 0 } }
+        1..=12 => 31,
+        _ => 0,
     }
 }
 
+#[tactic(auto, unfolding(ground::specs::Choice::one))]
 fn days_in_year(y: u64) -> u64
     ensures { result ≡ days_in_year y }
 {
-    if is_leap(y) { 366 } else { 365 }
+    365 + u64::from(is_leap(y))
 }
 
 // The days of the first n years from 1980 on.
+#[tactic(auto, using(crate::proofs::Months::year_sums))]
 fn years_before(n: u64) -> u64
     requires { n < 100 }
     ensures { result ≡ years_before n }
 {
-    let mut days: u64 = 0;
-    let mut i: u64 = 0;
-    while i < n {
+    let mut days = 0;
+    for i in 0..n {
         days += days_in_year(1980 + i);
-        i += 1;
     }
     days
 }
 
 // The days of the year y that come before month m.
+#[tactic(auto, using(crate::proofs::Months::month_sums))]
 fn months_before(y: u64, m: u64) -> u64
     requires { m < 100 }
     ensures { result ≡ months_before y m }
 {
-    let mut days: u64 = 0;
-    let mut i: u64 = 0;
-    while i < m {
+    let mut days = 0;
+    for i in 0..m {
         days += days_in(y, i);
-        i += 1;
     }
     days
 }
 
 // Month and day, mmdd, of day k of the year y, counted from 0.
+#[tactic(auto, using(crate::proofs::Months::month_walk))]
 fn in_year(y: u64, k: u64) -> u64
     ensures { result ≡ in_year y 1 k 12 }
 {
     let mut left = k;
-    let mut m: u64 = 1;
-    while m < 13 {
+    for m in 1..13 {
         let n = days_in(y, m);
         if left < n {
             return 100 * m + left + 1;
         }
         left -= n;
-        m += 1;
     }
     1231
 }
 
 // The date of a day's number: 791231 for any day beyond that.
+#[tactic(auto, using(crate::proofs::Months::year_walk), unfolding(crate::specs::Dates::date_of))]
 pub fn date_of(k: u64) -> Date
     ensures { result.yymmdd ≡ date_of k }
 {
     let mut left = k;
-    let mut y: u64 = 1980;
-    while y < 2080 {
+    for y in 1980..2080 {
         let n = days_in_year(y);
         if left < n {
             let d = 10000 * (y % 100) + in_year(y, left);
             return Date { yymmdd: d as u32 };
         }
         left -= n;
-        y += 1;
     }
     Date { yymmdd: 791231 }
 }
 
-// Whether x is among the holidays.
-fn is_listed(x: u32, holidays: &[u32]) -> bool
-    ensures { result ≡ member x holidays.now }
-{
-    let mut i = 0;
-    while i < holidays.len() {
-        if holidays[i] == x {
-            return true;
-        }
-        i += 1;
-    }
-    false
-}
-
 // Whether day k is Monday to Friday and no holiday.
+#[tactic(auto, unfolding(crate::specs::Banking::banking_day, ground::specs::Choice::both, ground::specs::Choice::fails), using(ground::proofs::Std::member_is))]
 fn is_banking(k: u64, holidays: &[u32]) -> bool
     requires { k < 40000 }
     ensures { result ≡ banking_day holidays.now k }
 {
-    if 5 <= (k + 1) % 7 {
-        return false;
-    }
-    let d = date_of(k);
-    !is_listed(d.yymmdd, holidays)
+    (k + 1) % 7 < 5 && !holidays.contains(&date_of(k).yymmdd)
 }
 
 impl BankingDays {
@@ -159,31 +136,22 @@ impl BankingDays {
     {
         BankingDays(self.0 + 1)
     }
-
-    // Whether these are more banking days than the others.
-    pub fn is_more_than(self, other: BankingDays) -> bool
-        ensures { result ≡ more_than self other }
-    {
-        other.0 < self.0
-    }
 }
 
 // The first day that is not too old on day t: back from t until a sixth banking day is met.
+#[tactic(auto, using(crate::proofs::Old::back))]
 fn first_good(t: u64, holidays: &[u32]) -> u64
     requires { t < 40000 }
     ensures { result ≡ first_good holidays.now t 0 t }
 {
     let mut met = BankingDays(0);
-    let mut k = t;
-    while 0 < k {
+    for k in (1..=t).rev() {
         if is_banking(k, holidays) {
-            let more = met.next();
-            if more.is_more_than(TOO_OLD_AFTER) {
+            met = met.next();
+            if met > TOO_OLD_AFTER {
                 return k;
             }
-            met = more;
         }
-        k -= 1;
     }
     0
 }
@@ -196,29 +164,36 @@ fn place_in_order(d: u32) -> u32
 }
 
 impl Date {
+    fn year(self) -> u64
+        ensures { result ≡ year_of self.yymmdd }
+    {
+        1980 + (u64::from(self.yymmdd) / 10000 + 20) % 100
+    }
+
+    fn month(self) -> u64
+        ensures { result ≡ month_of self.yymmdd }
+    {
+        u64::from(self.yymmdd) / 100 % 100
+    }
+
+    fn day(self) -> u64
+        ensures { result ≡ day_of self.yymmdd }
+    {
+        u64::from(self.yymmdd) % 100
+    }
+
     // Whether this is a date of the calendar.
+    #[tactic(auto, unfolding(crate::specs::Dates::real_date, ground::specs::Choice::both, ground::specs::Choice::between))]
     pub fn is_real(self) -> bool
         ensures { result ≡ is_real self }
     {
-        let d = self.yymmdd as u64;
-        if 1000000 <= d {
-            return false;
-        }
-        let m = d / 100 % 100;
-        if m < 1 {
-            return false;
-        }
-        if 12 < m {
-            return false;
-        }
-        let e = d % 100;
-        if e < 1 {
-            return false;
-        }
-        e <= days_in(1980 + (d / 10000 + 20) % 100, m)
+        self.yymmdd < 1000000
+            && (1..=12).contains(&self.month())
+            && (1..=days_in(self.year(), self.month())).contains(&self.day())
     }
 
     // Whether this date comes before the other, 991231 before 000101.
+    #[tactic(auto, unfolding(crate::specs::Dates::earlier))]
     pub fn before(self, other: Date) -> bool
         ensures { result ≡ is_before self other }
     {
@@ -226,19 +201,17 @@ impl Date {
     }
 
     // Days from 800101 on, which is day 0.
+    #[tactic(auto, using(crate::proofs::Days::few_days), unfolding(crate::specs::Dates::day_number))]
     pub fn day_number(self) -> u64
         ensures { result ≡ day_number self.yymmdd }
     {
-        let d = self.yymmdd as u64;
-        let n = (d / 10000 + 20) % 100;
-        let days = years_before(n) + months_before(1980 + n, d / 100 % 100) + d % 100;
-        if days == 0 {
-            return 0;
-        }
-        days - 1
+        let y = self.year();
+        let days = years_before(y - 1980) + months_before(y, self.month()) + self.day();
+        days.saturating_sub(1)
     }
 
     // 0 is Monday and 6 Sunday.
+    #[tactic(auto, using(crate::proofs::Days::few_days))]
     pub fn weekday_of(self) -> u64
         ensures { result ≡ weekday (day_number self.yymmdd) }
     {
@@ -246,24 +219,23 @@ impl Date {
     }
 
     // The date so many calendar days later, 791231 at the latest.
+    #[tactic(auto, using(crate::proofs::Days::few_days), unfolding(crate::specs::Dates::later))]
     pub fn plus(self, days: CalendarDays) -> Date
         ensures { result ≡ later self days }
     {
-        date_of(self.day_number() + days.0 as u64)
+        date_of(self.day_number() + u64::from(days.0))
     }
 
     // Whether more than five banking days lie after this date, up to today.
+    #[tactic(auto, using(crate::proofs::Days::few_days, crate::proofs::Old::ahead))]
     pub fn is_too_old(self, today: Date, holidays: &[u32]) -> bool
         ensures { result ≡ too_old holidays.now self today }
     {
-        let t = today.day_number();
-        let mut k = self.day_number();
         let mut met = BankingDays(0);
-        while k < t {
-            k += 1;
-            if is_banking(k, holidays) {
+        for k in self.day_number()..today.day_number() {
+            if is_banking(k + 1, holidays) {
                 met = met.next();
-                if met.is_more_than(TOO_OLD_AFTER) {
+                if met > TOO_OLD_AFTER {
                     return true;
                 }
             }
@@ -272,6 +244,7 @@ impl Date {
     }
 
     // The earliest date that is not too old on this one.
+    #[tactic(auto, using(crate::proofs::Days::few_days), unfolding(crate::specs::Banking::earliest_good))]
     pub fn earliest_good(self, holidays: &[u32]) -> Date
         ensures { result ≡ earliest_good holidays.now self }
     {

@@ -159,11 +159,5 @@ unfolding turned_from
 turned-length [] x = refl
 turned-length (s ∷ ss) x = ap suc (turned-length ss (turned s x))
 
--- a list that a loop fills from another: one entry more, and all
-module _ (f : ℕ → ℕ) (us ks : List ℕ) (i : ℕ) (e : length ks ≡ 16) where
-  pub map_step : i < 16 → length us ≡ 16
-      → take (i + 1) (set ks i (f (get_or us i 0))) ++ map f (drop (i + 1) us) ≡ take i ks ++ map f (drop i us)
-  map_step h l = rw (add-one i, drop-cons us i 0 (omega arith), take-suc-set ks i _ (omega arith), append_assoc)
-
-  pub map_done : 16 ≤ i → length us ≡ 16 → take i ks ++ map f (drop i us) ≡ ks
-  map_done h l = rw (drop_of_length-le us {i = i} (omega arith), take_all i ks (omega arith), append-nil)
+pub choice1_lt : (key : ℕ) → permute choice1 64 key < 2 ^ 56
+choice1_lt key = permute-lt choice1 64 key

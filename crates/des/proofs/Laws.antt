@@ -9,7 +9,7 @@ use native.Mathlib.Numerals.{add-one}
 use native.Mathlib.Omega.{arith}
 use borrow.Author.Tests.{ltb-true, leb-true}
 use lib.Dec.{ltb, leb}
-use lib.Bits.{bit_xor}
+use lib.Bits.{bit_xor, xor_lt}
 use lib.ListN.{length, get_or, drop, drop_of_length-le}
 use lib.Seq.{drop-cons}
 use Rattle.des.specs.Des.{bit, select, permute, named, mixed, rotated, keys_from, schedule_of}
@@ -57,10 +57,15 @@ pub rounds_drop : (t ks : List ℕ) (i l r : ℕ) → i < length ks
 unfolding joined_rounds
 rounds_drop t ks i l r h = rw (add-one i, drop-cons ks i 0 h)
 
--- all sixteen
-pub rounds_done : (t ks : List ℕ) (i l r : ℕ) → 16 ≤ i → length ks ≡ 16 → joined_rounds t (drop i ks) l r ≡ r * 2 ^ 32 + l
+-- past the last
+pub rounds_done : (t ks : List ℕ) (i l r : ℕ) → length ks ≤ i → joined_rounds t (drop i ks) l r ≡ r * 2 ^ 32 + l
 unfolding joined_rounds
-rounds_done t ks i l r h e = rw (drop_of_length-le ks {i = i} (omega arith))
+rounds_done t ks i l r h = rw (drop_of_length-le ks {i = i} h)
+
+pub half_lt : (l m : ℕ) → l < 2 ^ 32 → m < 2 ^ 32 → bit_xor l m < 2 ^ 32
+half_lt l m p q = xor_lt 32 l m p q
+
+pub ruleset rounds = (rounds_drop, rounds_done, half_lt)
 
 -- a list by its elements from the i-th on
 abbrev pub entries : List ℕ → ℕ → ℕ → List ℕ
