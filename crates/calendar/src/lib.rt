@@ -9,16 +9,16 @@ ghost use Rattle.calendar.specs.Dates.{months_before, day_number, in_year, date_
 ghost use Rattle.calendar.specs.Banking.{weekday, banking_day, more_than, too_old, first_good, earliest_good};
 
 // A date as it is written, yymmdd.
-#[derive(Clone, Copy)]
+#[derive(Clone, Copy, Debug, PartialEq, Eq)]
 pub struct Date {
     pub yymmdd: u32,
 }
 
 // The two counts, which are never added together or compared: a date is moved on by the one, and its age is told by the other.
-#[derive(Clone, Copy)]
+#[derive(Clone, Copy, Debug, PartialEq, Eq, PartialOrd, Ord)]
 pub struct CalendarDays(pub u32);
 
-#[derive(Clone, Copy)]
+#[derive(Clone, Copy, Debug, PartialEq, Eq, PartialOrd, Ord)]
 pub struct BankingDays(pub u32);
 
 // A stamp is too old once more banking days than these lie after its date.

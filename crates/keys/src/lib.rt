@@ -8,7 +8,7 @@ ghost use Rattle.keys.specs.Keys.{combined, check_value, working_key0, next_gene
 ghost use Rattle.keys.specs.Maker.{made_of, clock_value, key_of, next_seed};
 
 // The key maker: K and the seed V.
-#[derive(Clone, Copy)]
+#[derive(Clone, Copy, Debug, PartialEq, Eq)]
 pub struct KeyMaker {
     pub key: u64,
     pub seed: u64,
