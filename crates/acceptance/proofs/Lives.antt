@@ -1,7 +1,7 @@
 -- What stands by a stamp that is not too old, in the library's words, and what one stamp more adds to it.
 -- Assumes nothing.
 use Rattle.std.specs.List.{list_any, filter, zip}
-use mathlib.Core.Path.{◌≡◌, refl, sym, ap, ap₂, ◌∙◌}
+use mathlib.Core.Path.{◌≡◌, refl, sym, ap, ◌∙◌}
 use mathlib.Core.Bool.{Bool, true, false, cond, not, ◌&&◌, ◌||◌}
 use mathlib.Core.List.{List, [], ◌∷◌, ◌++◌}
 use Prim.Native.Nat.{ℕ, zero, suc, ◌+◌, ◌≤◌, ◌<◌}
@@ -10,14 +10,14 @@ use native.Mathlib.Numerals.{add-one}
 use native.Mathlib.Omega.{arith}
 use lib.Dec.{eqb}
 use lib.ListN.{length, take, get_or, set, replicate, length-append, length-take}
-use lib.Seq.{length-take-le, take_all}
+use lib.Seq.{take_all}
 use Rattle.ground.specs.Choice.{either, pick}
 use Rattle.ground.specs.Lists.{member}
 use Rattle.ground.proofs.Choices.{picks, skips}
 use Rattle.ground.proofs.Lists.{length-pick}
 use Rattle.calendar.specs.declared.Date.{Date}
 use Rattle.customer.specs.declared.Customer.{Customer}
-use Rattle.acceptance.specs.Stamps.{stamp_old, held_stamps, held_once, live_of, live_stamps, live_once, in_places, with_live, with_stamp}
+use Rattle.acceptance.specs.Stamps.{stamp_old, held_stamps, held_once, live_of, live_stamps, in_places, with_live, with_stamp}
 use Rattle.acceptance.proofs.Room.{one_more, no_more}
 
 module _ (hs : List ℕ) (today : Date) where
@@ -86,11 +86,13 @@ module _ (hs : List ℕ) (today : Date) where
         → live_of hs today (take (i + 1) ss) (take (i + 1) xs) ≡ live_of hs today (take i ss) (take i xs) ++ (get_or xs i 0 ∷ [])
     live_good e = rw (add-one i) (more ss xs i p q ∙ skips _ _ _ e)
 
-  pub live_lengths : (ss ks : List ℕ) → length ss ≡ length ks → length (live_of hs today ss ss) ≡ length (live_of hs today ss ks)
+  pub live_lengths : (n : ℕ) (ss ks : List ℕ) → length ss ≡ length ks
+      → length (live_of hs today (take n ss) (take n ss)) ≡ length (live_of hs today (take n ss) (take n ks))
   unfolding live_of
-  live_lengths [] ks l = refl
-  live_lengths (s ∷ ss) [] l = absurd (omega arith)
-  live_lengths (s ∷ ss) (k ∷ ks) l = length-pick (stamp_old hs today s) s k _ _ (live_lengths ss ks (omega arith))
+  live_lengths zero ss ks l = refl
+  live_lengths (suc n) [] ks l = refl
+  live_lengths (suc n) (s ∷ ss) [] l = absurd (omega arith)
+  live_lengths (suc n) (s ∷ ss) (k ∷ ks) l = length-pick (stamp_old hs today s) s k _ _ (live_lengths n ss ks (omega arith))
 
 -- ---- the record with other stamps
 
@@ -159,8 +161,7 @@ module _ (hs : List ℕ) (today : Date) (c : Customer) where
         ap (λ (z : ℕ). x ++ (z ∷ [])) (t.2 0) ∙ sym (live_good hs today ss ss i t.0 t.0 f) in
         let b : y ++ (k ∷ []) ≡ live_of hs today (take (i + 1) ss) (take (i + 1) ks) =
         ap (λ (z : ℕ). y ++ (z ∷ [])) (t.3 0) ∙ sym (live_good hs today ss ks i t.0 t.1 f) in
-        let q : length (take i ss) ≡ length (take i ks) = omega (arith, length-take-le i ss, length-take-le i ks) in
-        let r : length x ≡ length y = live_lengths hs today (take i ss) (take i ks) q in
+        let r : length x ≡ length y = live_lengths hs today i ss ks l in
         let g : length x < 64 = omega (arith, ap (λ (d : Customer). d.count) w) in
         rw (m, w)
         (placed_more c x y s k r g
@@ -188,10 +189,10 @@ module _ (hs : List ℕ) (today : Date) (c live : Customer) (p : length c.stamps
   unfolding with_live with_stamp
   marked_more h =
       let g : length (live_stamps hs today c) < 64 = omega (arith, ap (λ (d : Customer). d.count) w) in
-      rw w (placed_more c _ _ s k (live_lengths hs today (held_stamps c) (held_once c) (held_same c p q)) g)
+      rw w (placed_more c _ _ s k (live_lengths hs today c.count c.stamps c.once (p ∙ sym q)) g)
 
   pub marked_full : live.count ≡ 64 → placed live (live.count + 1) live.stamps live.once ≡ with_stamp hs today c s k
   unfolding with_live with_stamp
   marked_full h =
       let g : length (live_stamps hs today c) ≡ 64 = omega (arith, ap (λ (d : Customer). d.count) w) in
-      rw w (placed_full c _ _ s k (live_lengths hs today (held_stamps c) (held_once c) (held_same c p q)) g)
+      rw w (placed_full c _ _ s k (live_lengths hs today c.count c.stamps c.once (p ∙ sym q)) g)

@@ -82,7 +82,6 @@ impl<'a> Day<'a> {
 }
 
 // How many stamps of the customer are not too old.
-#[tactic(auto, using(crate::proofs::Lives::live_filtered))]
 pub fn live_count(c: Customer, today: Date, holidays: &[u32]) -> u32
     ensures { result ≡ length (live_stamps holidays.now today c) }
 {

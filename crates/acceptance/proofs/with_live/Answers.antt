@@ -1,8 +1,8 @@
 -- What is live of the stamps seen so far stands in the record, and one stamp more is left out or put behind them.
-use Rattle.std.proofs.Common.{rules, tests, ◌≡◌, ℕ, ◌<◌, length, get_or, true, false, refl, arith}
+use Rattle.std.proofs.Common.{rules, tests, length, arith}
 use Rattle.std.proofs.lemmas.List.{length_push}
 use Rattle.std.proofs.lemmas.Slice.Zip.{zip_turn, zip_end}
-use Rattle.acceptance.specs.Stamps.{held_stamps, held_once, stamp_old}
+use Rattle.acceptance.specs.Stamps.{held_stamps, held_once}
 use Rattle.acceptance.proofs.Lives.{held_same, held_few, in_none, in_old, in_good, in_all}
 use Rattle.acceptance.proofs.with_live.Goals as goal
 
