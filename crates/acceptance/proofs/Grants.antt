@@ -2,13 +2,13 @@
 -- Assumes nothing.
 use Rattle.std.specs.Prelude.{None, Option, Some}
 use mathlib.Core.Path.{◌≡◌, refl, sym, ap, subst, ◌∙◌}
-use mathlib.Core.Bool.{Bool, true, false}
+use mathlib.Core.Bool.{true}
 use mathlib.Core.List.{List, [], ◌∷◌}
 use mathlib.Core.Logic.{◌⊎◌, inl, inr, ⊎_elim}
 use Prim.Native.Nat.{ℕ, ◌≤◌}
 use native.Mathlib.Omega.{arith}
-use Rattle.ground.specs.Choice.{either, pick}
-use Rattle.ground.proofs.Choices.{picks, skips, left, right}
+use Rattle.ground.specs.Choice.{either}
+use Rattle.ground.proofs.Choices.{left, right}
 use Rattle.ground.proofs.Bools.{picked_each}
 use Rattle.ground.specs.Lists.{member}
 use Rattle.calendar.specs.Dates.{real_date}
@@ -25,14 +25,6 @@ use Rattle.acceptance.specs.Grants.{granted_by}
 use Rattle.acceptance.specs.Steps.{granted, under_previous, new_key, under_current}
 use Rattle.acceptance.specs.declared.Granted.{Granted}
 use Rattle.acceptance.proofs.Rows.{by_rows}
-
--- ---- an answer, where the tests lead to it
-
-pub here : (r a b : Granted) (t : Bool) → t ≡ true → r ≡ a → r ≡ pick t a b
-here r a b t e p = p ∙ sym (picks _ _ _ e)
-
-pub there : (r a b : Granted) (t : Bool) → t ≡ false → r ≡ b → r ≡ pick t a b
-there r a b t e p = p ∙ sym (skips _ _ _ e)
 
 -- ---- what holds of each answer
 

@@ -1,175 +1,198 @@
--- What stands by a stamp that is not too old, one stamp after the other: what is kept so far and what is to come make the whole.
+-- What stands by a stamp that is not too old, in the library's words, and what one stamp more adds to it.
 -- Assumes nothing.
-use mathlib.Core.Path.{◌≡◌, refl, sym, ap, ap₂, ◌∙◌}
-use mathlib.Core.Bool.{Bool, true, false}
-use mathlib.Core.List.{List, [], ◌∷◌, ◌++◌, append_assoc, append-nil}
-use Prim.Native.Nat.{ℕ, suc, ◌+◌, ◌-◌, ◌≤◌, ◌<◌}
+use Rattle.std.specs.List.{list_any, filter, zip}
+use mathlib.Core.Path.{◌≡◌, refl, sym, ap, ◌∙◌}
+use mathlib.Core.Bool.{Bool, true, false, cond, not, ◌&&◌, ◌||◌}
+use mathlib.Core.List.{List, [], ◌∷◌, ◌++◌}
+use Prim.Native.Nat.{ℕ, zero, suc, ◌+◌, ◌≤◌, ◌<◌}
+use native.Mathlib.Nat.{le_of_suc-le-suc, not-suc-le-zero}
 use native.Mathlib.Numerals.{add-one}
 use native.Mathlib.Omega.{arith}
-use lib.ListN.{length, take, drop, get_or, set, replicate, length-set, take-append-drop}
-use lib.Seq.{drop-drop, drop-set-lt, take-suc-set, length-take-le}
-use borrow.Author.Tests.{eq-eqb, ne_eqb}
-use Rattle.ground.specs.Choice.{pick}
+use lib.Dec.{eqb}
+use lib.ListN.{length, take, get_or, set, replicate, length-append, length-take}
+use lib.Seq.{take_all}
+use Rattle.ground.specs.Choice.{either, pick}
 use Rattle.ground.specs.Lists.{member}
-use Rattle.ground.proofs.Choices.{picks, skips, decides, fails_left, either_left, either_decides}
-use Rattle.ground.proofs.Lists.{held_next, held_none, member-cons}
-use Rattle.ground.proofs.Bools.{denied, granted}
+use Rattle.ground.proofs.Choices.{picks, skips}
+use Rattle.ground.proofs.Lists.{length-pick}
 use Rattle.calendar.specs.declared.Date.{Date}
 use Rattle.customer.specs.declared.Customer.{Customer}
-use Rattle.acceptance.specs.Stamps.{stamp_old, live_of, live_stamps, live_once, once_used, in_places, with_stamp}
-use Rattle.acceptance.proofs.Room.{in_places_lem, placed, unplaced}
+use Rattle.acceptance.specs.Stamps.{stamp_old, held_stamps, held_once, live_of, live_stamps, in_places, with_live, with_stamp}
+use Rattle.acceptance.proofs.Room.{one_more, no_more}
 
 module _ (hs : List ℕ) (today : Date) where
-  live_cons : (s x : ℕ) (ss xs : List ℕ) (b : Bool) → stamp_old hs today s ≡ b
-      → live_of hs today (s ∷ ss) (x ∷ xs) ≡ pick b (live_of hs today ss xs) (x ∷ live_of hs today ss xs)
+  -- ---- in the library's words
+
+  kept_by : (b : Bool) (s : ℕ) (x y : List ℕ) → x ≡ y → pick b x (s ∷ x) ≡ cond (not b) (s ∷ y) y
+  unfolding pick
+  kept_by true s x y e = e
+  kept_by false s x y e = ap (◌∷◌ s) e
+
+  pub live_filtered : (l : List ℕ) → live_of hs today l l ≡ filter (λ s. not (stamp_old hs today s)) l
   unfolding live_of
-  live_cons s x ss xs b e = ap (λ (t : Bool). pick t (live_of hs today ss xs) (x ∷ live_of hs today ss xs)) e
+  live_filtered [] = refl
+  live_filtered (s ∷ l) = kept_by (stamp_old hs today s) s _ _ (live_filtered l)
 
-  -- what is live from place i on
-  abbrev pub live_from : ℕ → List ℕ → List ℕ → ℕ → List ℕ
-  live_from n ss xs i = live_of hs today (drop i (take n ss)) (drop i (take n xs))
+  none_by : (t r : Bool) → r ≡ ((t && false) || r)
+  none_by true r = refl
+  none_by false r = refl
 
-  module _ (n : ℕ) (ss xs : List ℕ) (i : ℕ) (p : n ≤ length ss) (q : n ≤ length xs) where
-    live_next : (b : Bool) → i < n → stamp_old hs today (get_or ss i 0) ≡ b
-        → live_from n ss xs i ≡ pick b (live_from n ss xs (i + 1)) (get_or xs i 0 ∷ live_from n ss xs (i + 1))
-    live_next b h e = rw (held_next n ss i h p, held_next n xs i h q) (live_cons _ _ _ _ b e)
+  some_by : (t m r : Bool) → m ≡ r → either t m ≡ ((t && true) || r)
+  unfolding either
+  some_by true m r e = refl
+  some_by false m r e = e
 
-    pub live_old : i < n → stamp_old hs today (get_or ss i 0) ≡ true → live_from n ss xs i ≡ live_from n ss xs (i + 1)
-    live_old h e = live_next true h e ∙ picks true _ _ refl
+  found_by : (b : Bool) (key x : ℕ) (l : List ℕ) (r : Bool) → member key l ≡ r
+      → member key (pick b l (x ∷ l)) ≡ ((eqb x key && not b) || r)
+  unfolding pick member
+  found_by true key x l r e = e ∙ none_by (eqb x key) r
+  found_by false key x l r e = some_by (eqb x key) (member key l) r e
 
-    pub live_good : i < n → stamp_old hs today (get_or ss i 0) ≡ false
-        → live_from n ss xs i ≡ get_or xs i 0 ∷ live_from n ss xs (i + 1)
-    live_good h e = live_next false h e ∙ skips false _ _ refl
+  pub live_any : (key : ℕ) (ss xs : List ℕ) → member key (live_of hs today ss xs)
+      ≡ list_any (λ p. eqb p.1 key && not (stamp_old hs today p.0)) (zip ss xs)
+  unfolding live_of member
+  live_any key [] xs = refl
+  live_any key (s ∷ ss) [] = refl
+  live_any key (s ∷ ss) (x ∷ xs) = found_by (stamp_old hs today s) key x _ _ (live_any key ss xs)
 
-    pub live_end : n ≤ i → live_from n ss xs i ≡ []
-    unfolding live_of
-    live_end h = rw (held_none n ss i h p)
+  -- ---- one stamp more
 
-  -- a one-time key among those to come
-  pub used_end : (key n : ℕ) (ss xs : List ℕ) (i : ℕ) → n ≤ length ss → n ≤ length xs → n ≤ i
-      → member key (live_from n ss xs i) ≡ false
-  unfolding member
-  used_end key n ss xs i p q h = ap (member key) (live_end n ss xs i p q h)
+  one_by : (b o : Bool) (x y : ℕ) (l : List ℕ)
+      → pick b (pick o l (l ++ (y ∷ []))) (x ∷ pick o l (l ++ (y ∷ [])))
+      ≡ pick o (pick b l (x ∷ l)) (pick b l (x ∷ l) ++ (y ∷ []))
+  unfolding pick
+  one_by true o x y l = refl
+  one_by false true x y l = refl
+  one_by false false x y l = refl
 
-  module _ (key n : ℕ) (ss xs : List ℕ) (i : ℕ) (p : n ≤ length ss) (q : n ≤ length xs) (h : i < n) where
-    pub used_here : stamp_old hs today (get_or ss i 0) ≡ false → get_or xs i 0 ≡ key → member key (live_from n ss xs i) ≡ true
-    used_here o e =
-        ap (member key) (live_good n ss xs i p q h o) ∙ member-cons key _ _ ∙ either_left _ _ (eq-eqb _ _ e)
+  more : (ss xs : List ℕ) (i : ℕ) → i < length ss → i < length xs
+      → live_of hs today (take (suc i) ss) (take (suc i) xs)
+      ≡ pick (stamp_old hs today (get_or ss i 0)) (live_of hs today (take i ss) (take i xs))
+      (live_of hs today (take i ss) (take i xs) ++ (get_or xs i 0 ∷ []))
+  unfolding live_of
+  more [] xs i p q = absurd (not-suc-le-zero p)
+  more (s ∷ ss) [] i p q = absurd (not-suc-le-zero q)
+  more (s ∷ ss) (x ∷ xs) zero p q = refl
+  more (s ∷ ss) (x ∷ xs) (suc i) p q =
+      ap (λ (l : List ℕ). pick (stamp_old hs today s) l (x ∷ l)) (more ss xs i (le_of_suc-le-suc p) (le_of_suc-le-suc q))
+      ∙ one_by (stamp_old hs today s) (stamp_old hs today (get_or ss i 0)) x (get_or xs i 0) (live_of hs today (take i ss) (take i xs))
 
-    pub used_old : stamp_old hs today (get_or ss i 0) ≡ true
-        → member key (live_from n ss xs i) ≡ member key (live_from n ss xs (i + 1))
-    used_old o = ap (member key) (live_old n ss xs i p q h o)
+  module _ (ss xs : List ℕ) (i : ℕ) (p : i < length ss) (q : i < length xs) where
+    live_old : stamp_old hs today (get_or ss i 0) ≡ true
+        → live_of hs today (take (i + 1) ss) (take (i + 1) xs) ≡ live_of hs today (take i ss) (take i xs)
+    live_old e = rw (add-one i) (more ss xs i p q ∙ picks _ _ _ e)
 
-    pub used_other : (get_or xs i 0 ≡ key → ⊥) → member key (live_from n ss xs i) ≡ member key (live_from n ss xs (i + 1))
-    used_other e = by (stamp_old hs today (get_or ss i 0)) refl
-      where
-        by : (b : Bool) → stamp_old hs today (get_or ss i 0) ≡ b
-            → member key (live_from n ss xs i) ≡ member key (live_from n ss xs (i + 1))
-        by true o = used_old o
-        by false o =
-            ap (member key) (live_good n ss xs i p q h o) ∙ member-cons key _ _ ∙ either_decides _ _ (ne_eqb _ _ e)
+    live_good : stamp_old hs today (get_or ss i 0) ≡ false
+        → live_of hs today (take (i + 1) ss) (take (i + 1) xs) ≡ live_of hs today (take i ss) (take i xs) ++ (get_or xs i 0 ∷ [])
+    live_good e = rw (add-one i) (more ss xs i p q ∙ skips _ _ _ e)
 
-  pub used_none : (c : Customer) (key : ℕ) → key ≡ 0 → false ≡ once_used hs today c key
-  unfolding once_used
-  used_none c key e = sym (fails_left _ _ (denied refl (eq-eqb key 0 e)))
+  pub live_lengths : (n : ℕ) (ss ks : List ℕ) → length ss ≡ length ks
+      → length (live_of hs today (take n ss) (take n ss)) ≡ length (live_of hs today (take n ss) (take n ks))
+  unfolding live_of
+  live_lengths zero ss ks l = refl
+  live_lengths (suc n) [] ks l = refl
+  live_lengths (suc n) (s ∷ ss) [] l = absurd (omega arith)
+  live_lengths (suc n) (s ∷ ss) (k ∷ ks) l = length-pick (stamp_old hs today s) s k _ _ (live_lengths n ss ks (omega arith))
 
-  used_some : (c : Customer) (key : ℕ) → (key ≡ 0 → ⊥) → once_used hs today c key ≡ member key (live_once hs today c)
-  unfolding once_used
-  used_some c key e = decides _ _ (granted refl (ne_eqb key 0 e))
+-- ---- the record with other stamps
 
-  pub used_as : (c : Customer) (key n i : ℕ) → (key ≡ 0 → ⊥) → take c.count c.stamps ≡ take n c.stamps
-      → take c.count c.once ≡ take n c.once
-      → member key (live_from n c.stamps c.once i) ≡ member key (live_from n c.stamps c.once 0)
-      → once_used hs today c key ≡ member key (live_from n c.stamps c.once i)
-  used_as c key n i e p q h = used_some c key e ∙ ap (member key) (ap₂ (live_of hs today) p q) ∙ sym h
+module _ (c : Customer) where
+  abbrev pub placed : ℕ → List ℕ → List ℕ → Customer
+  placed n ss ks =
+      record {
+        who = c.who;
+        types = c.types;
+        agreed = c.agreed;
+        leave = c.leave;
+        length = c.length;
+        transport = c.transport;
+        working = c.working;
+        count = n;
+        stamps = ss;
+        once = ks;
+      }
 
-  -- the record with other stamps, where they are those that are live and then the new one
-  module _ (c : Customer) (stamp once : ℕ) where
-    abbrev marked : ℕ → List ℕ → List ℕ → Customer
-    marked n ss ks =
-        record {
-          who = c.who;
-          types = c.types;
-          agreed = c.agreed;
-          leave = c.leave;
-          length = c.length;
-          transport = c.transport;
-          working = c.working;
-          count = n + 1;
-          stamps = ss;
-          once = ks;
-        }
+  as_placed : (n n' : ℕ) (a a' b b' : List ℕ) → n ≡ n' → a ≡ a' → b ≡ b' → placed n a b ≡ placed n' a' b'
+  as_placed n n' a a' b b' e f g = rw (e, f, g)
 
-    as_marked : (n : ℕ) (ss ks : List ℕ) → n ≡ length (live_stamps hs today c)
-        → ss ≡ in_places (live_stamps hs today c ++ (stamp ∷ [])) → ks ≡ in_places (live_once hs today c ++ (once ∷ []))
-        → marked n ss ks ≡ with_stamp hs today c stamp once
-    unfolding with_stamp
-    as_marked n ss ks e f g = rw (e, f, g)
+  -- a stamp more, with what is beside it, where there is a place left and where there is none
+  module _ (ss ks : List ℕ) (s k : ℕ) (l : length ss ≡ length ks) where
+    pub placed_more : length ss < 64
+        → placed (length ss + 1) (set (in_places ss) (length ss) s) (set (in_places ks) (length ss) k)
+        ≡ placed (length ss + 1) (in_places (ss ++ (s ∷ []))) (in_places (ks ++ (k ∷ [])))
+    placed_more h =
+        as_placed _ _ _ _ _ _ refl (one_more ss s h)
+        (ap (λ (n : ℕ). set (in_places ks) n k) l ∙ one_more ks k (omega arith))
 
-    module _ (n : ℕ) (ss ks ss' ks' : List ℕ)
-        (counted : (n ≤ 64) × (n ≡ length (live_stamps hs today c)) × (n ≡ length (live_once hs today c)))
-        (places : (ss ≡ in_places (live_stamps hs today c)) × (ks ≡ in_places (live_once hs today c))) where
-      pub marked_more : n < 64 → ss' ≡ set ss n stamp → ks' ≡ set ks n once → marked n ss' ks' ≡ with_stamp hs today c stamp once
-      marked_more h f g =
-          as_marked n ss' ks' counted.1
-          (placed (live_stamps hs today c) ss ss' n stamp counted.1 h places.0 f)
-          (placed (live_once hs today c) ks ks' n once counted.2 h places.1 g)
+    pub placed_full : length ss ≡ 64
+        → placed (length ss + 1) (in_places ss) (in_places ks)
+        ≡ placed (length ss + 1) (in_places (ss ++ (s ∷ []))) (in_places (ks ++ (k ∷ [])))
+    placed_full h = as_placed _ _ _ _ _ _ refl (no_more ss s h) (no_more ks k (omega arith))
 
-      pub marked_full : 64 ≤ n → ss' ≡ ss → ks' ≡ ks → marked n ss' ks' ≡ with_stamp hs today c stamp once
-      marked_full h f g =
-          as_marked n ss' ks' counted.1
-          (unplaced (live_stamps hs today c) ss ss' n stamp counted.1 h counted.0 places.0 f)
-          (unplaced (live_once hs today c) ks ks' n once counted.2 h counted.0 places.1 g)
+-- ---- the record with what is live of some stamps and of what is beside them
 
-  -- of the n first places those below i are passed, and what is live of them stands in the first m of 64 places
-  pub record Kept (n : ℕ) (ss xs kept : List ℕ) (m i : ℕ) : Type 0 where
-    pub held : n ≤ length xs
-    pub room : length kept ≡ 64
-    pub free : drop m kept ≡ replicate (64 - m) 0
-    pub whole : take m kept ++ live_from n ss xs i ≡ live_from n ss xs 0
+module _ (hs : List ℕ) (today : Date) (c : Customer) where
+  abbrev pub live_in : List ℕ → List ℕ → Customer
+  live_in ss ks =
+      placed c (length (live_of hs today ss ss)) (in_places (live_of hs today ss ss)) (in_places (live_of hs today ss ks))
 
-  module _ (n : ℕ) (ss xs : List ℕ) (p : n ≤ length ss) where
-    pub kept_none : n ≤ length xs → Kept n ss xs (replicate 64 0) 0 0
-    kept_none q = record { held = q; room = refl; free = refl; whole = refl }
+  -- no stamp is seen
+  pub in_none : (ss ks : List ℕ) → placed c 0 (replicate 64 0) (replicate 64 0) ≡ live_in (take 0 ss) (take 0 ks)
+  unfolding live_of
+  in_none ss ks = refl
 
-    module _ (kept : List ℕ) (m i : ℕ) (k : Kept n ss xs kept m i) where
-      pub kept_old : i < n → stamp_old hs today (get_or ss i 0) ≡ true → Kept n ss xs kept m (i + 1)
-      kept_old h e =
-          record {
-            held = k.held;
-            room = k.room;
-            free = k.free;
-            whole = ap (◌++◌ (take m kept)) (sym (live_old n ss xs i p k.held h e)) ∙ k.whole;
-          }
+  -- a stamp more is seen, and what is live is as before or one more
+  module _ (ss ks : List ℕ) (l : length ss ≡ length ks) (live : Customer) (i n s k : ℕ) (w : live ≡ live_in (take i ss) (take i ks)) (m : n ≡ i + 1)
+      (t : (i < length ss) × (i < length ks) × ((d : ℕ) → s ≡ get_or ss i d) × ((d : ℕ) → k ≡ get_or ks i d)) where
+    pub in_old : stamp_old hs today s ≡ true → live ≡ live_in (take n ss) (take n ks)
+    in_old e =
+        let f = sym (ap (stamp_old hs today) (t.2 0)) ∙ e in
+        let a = live_old hs today ss ss i t.0 t.0 f in
+        let b = live_old hs today ss ks i t.0 t.1 f in
+        rw m (w ∙ as_placed c _ _ _ _ _ _ (sym (ap length a)) (sym (ap in_places a)) (sym (ap in_places b)))
 
-      pub kept_good : i < n → m < 64 → stamp_old hs today (get_or ss i 0) ≡ false
-          → Kept n ss xs (set kept m (get_or xs i 0)) (m + 1) (i + 1)
-      kept_good h l e =
-          let s : 64 - m ≡ suc (64 - (m + 1)) = omega arith in
-          let f : m < length kept = omega (arith, k.room) in
-          let g : take (m + 1) (set kept m (get_or xs i 0)) ≡ take m kept ++ (get_or xs i 0 ∷ []) =
-          rw (add-one m) (take-suc-set kept m (get_or xs i 0) f) in
-          record {
-            held = k.held;
-            room = length-set kept m (get_or xs i 0) ∙ k.room;
-            free =
-                drop-set-lt (m + 1) kept m (get_or xs i 0) (omega arith)
-                ∙ sym (drop-drop 1 m kept)
-                ∙ ap (drop 1) (k.free ∙ ap (λ (j : ℕ). replicate {A = ℕ} j 0) s);
-            whole =
-                ap (λ (l : List ℕ). l ++ live_from n ss xs (i + 1)) g
-                ∙ append_assoc (take m kept) (get_or xs i 0 ∷ []) (live_from n ss xs (i + 1))
-                ∙ ap (◌++◌ (take m kept)) (sym (live_good n ss xs i p k.held h e))
-                ∙ k.whole;
-          }
+    pub in_good : stamp_old hs today s ≡ false → live.count < 64
+        → placed live (live.count + 1) (set live.stamps live.count s) (set live.once live.count k) ≡ live_in (take n ss) (take n ks)
+    in_good e h =
+        let x = live_of hs today (take i ss) (take i ss) in
+        let y = live_of hs today (take i ss) (take i ks) in
+        let f = sym (ap (stamp_old hs today) (t.2 0)) ∙ e in
+        let a : x ++ (s ∷ []) ≡ live_of hs today (take (i + 1) ss) (take (i + 1) ss) =
+        ap (λ (z : ℕ). x ++ (z ∷ [])) (t.2 0) ∙ sym (live_good hs today ss ss i t.0 t.0 f) in
+        let b : y ++ (k ∷ []) ≡ live_of hs today (take (i + 1) ss) (take (i + 1) ks) =
+        ap (λ (z : ℕ). y ++ (z ∷ [])) (t.3 0) ∙ sym (live_good hs today ss ks i t.0 t.1 f) in
+        let r : length x ≡ length y = live_lengths hs today i ss ks l in
+        let g : length x < 64 = omega (arith, ap (λ (d : Customer). d.count) w) in
+        rw (m, w)
+        (placed_more c x y s k r g
+        ∙ as_placed c _ _ _ _ _ _ (sym (length-append x (s ∷ [])) ∙ ap length a) (ap in_places a) (ap in_places b))
 
-      pub kept_all : n ≤ i → m ≤ 64 → (m ≡ length (live_from n ss xs 0)) × (kept ≡ in_places (live_from n ss xs 0))
-      kept_all h l =
-          let f : length (take m kept) ≡ m = length-take-le m kept (omega (arith, k.room)) in
-          let w : take m kept ≡ live_from n ss xs 0 =
-          sym (append-nil (take m kept)) ∙ ap (◌++◌ (take m kept)) (sym (live_end n ss xs i p k.held h)) ∙ k.whole in
-          let g : kept ≡ in_places (take m kept) =
-          sym (take-append-drop m kept)
-          ∙ ap (◌++◌ (take m kept)) (k.free ∙ ap (λ (j : ℕ). replicate {A = ℕ} (64 - j) 0) (sym f))
-          ∙ sym (in_places_lem (take m kept) (omega arith)) in
-          (sym f ∙ ap length w, g ∙ ap in_places w)
+-- ---- what is held
+
+pub held_same : (c : Customer) → length c.stamps ≡ 64 → length c.once ≡ 64 → length (held_stamps c) ≡ length (held_once c)
+held_same c p q = omega (arith, length-take {A = ℕ})
+
+pub held_few : (c : Customer) → length c.stamps ≡ 64 → length (held_stamps c) ≤ 64
+held_few c p = omega (arith, length-take {A = ℕ})
+
+-- all that is held has been seen
+pub in_all : (hs : List ℕ) (today : Date) (c live : Customer) (i : ℕ) → length (held_stamps c) ≤ i → length (held_once c) ≤ i
+    → live ≡ live_in hs today c (take i (held_stamps c)) (take i (held_once c)) → live ≡ with_live hs today c
+unfolding with_live
+in_all hs today c live i p q e = e ∙ rw (take_all i (held_stamps c) p, take_all i (held_once c) q) refl
+
+-- the new one behind those that are live
+module _ (hs : List ℕ) (today : Date) (c live : Customer) (p : length c.stamps ≡ 64) (q : length c.once ≡ 64) (w : live ≡ with_live hs today c)
+    (s k : ℕ) where
+  pub marked_more : live.count < 64
+      → placed live (live.count + 1) (set live.stamps live.count s) (set live.once live.count k) ≡ with_stamp hs today c s k
+  unfolding with_live with_stamp
+  marked_more h =
+      let g : length (live_stamps hs today c) < 64 = omega (arith, ap (λ (d : Customer). d.count) w) in
+      rw w (placed_more c _ _ s k (live_lengths hs today c.count c.stamps c.once (p ∙ sym q)) g)
+
+  pub marked_full : live.count ≡ 64 → placed live (live.count + 1) live.stamps live.once ≡ with_stamp hs today c s k
+  unfolding with_live with_stamp
+  marked_full h =
+      let g : length (live_stamps hs today c) ≡ 64 = omega (arith, ap (λ (d : Customer). d.count) w) in
+      rw w (placed_full c _ _ s k (live_lengths hs today c.count c.stamps c.once (p ∙ sym q)) g)

@@ -13,13 +13,14 @@ use lib.ListN.{length, take, replicate, length-append}
 use Rattle.ground.specs.Choice.{both, pick}
 use Rattle.ground.specs.Lists.{member}
 use Rattle.ground.proofs.Choices.{left, right, join, either_left, either_right, either_cases}
-use Rattle.ground.proofs.Lists.{member-cons, member_front, member_last, member_none, member-pick, length-pick}
+use Rattle.ground.proofs.Lists.{member-cons, member_front, member_last, member_none, member-pick}
 use Rattle.ground.proofs.Bools.{under, unless}
 use Rattle.calendar.specs.declared.Date.{Date}
 use Rattle.customer.specs.Customer.{real_stamp, sound_once, sound_stamps, sound_customer}
 use Rattle.customer.specs.declared.Customer.{Customer}
 use Rattle.customer.proofs.Laws.{used}
 use Rattle.acceptance.specs.Stamps.{held_stamps, stamp_old, live_of, live_stamps, live_once, in_places, with_stamp}
+use Rattle.acceptance.proofs.Lives.{live_lengths}
 use Rattle.acceptance.proofs.Room.{in_places_lem, length-in_places, all_held}
 
 -- ---- what is live
@@ -101,14 +102,6 @@ module _ (hs : List ℕ) (today : Date) where
   sound_live (suc n) (s ∷ ss) [] l e = absurd (omega arith)
   sound_live (suc n) (s ∷ ss) (k ∷ ks) l e =
       sound_pick (stamp_old hs today s) s k _ _ (left (used s k) _ e) (sound_live n ss ks (omega arith) (right (used s k) _ e))
-
-  pub live_lengths : (n : ℕ) (ss ks : List ℕ) → length ss ≡ length ks
-      → length (live_of hs today (take n ss) (take n ss)) ≡ length (live_of hs today (take n ss) (take n ks))
-  unfolding live_of
-  live_lengths zero ss ks l = refl
-  live_lengths (suc n) [] ks l = refl
-  live_lengths (suc n) (s ∷ ss) [] l = absurd (omega arith)
-  live_lengths (suc n) (s ∷ ss) (k ∷ ks) l = length-pick (stamp_old hs today s) s k _ _ (live_lengths n ss ks (omega arith))
 
 -- in their places
 in_places_snoc : (l : List ℕ) (x n : ℕ) → length l ≡ n → n < 64 → in_places (l ++ (x ∷ [])) ≡ l ++ x ∷ replicate (63 - n) 0

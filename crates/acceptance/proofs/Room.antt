@@ -39,12 +39,3 @@ no_more l x h =
 -- what is held of a list in its places is the list
 pub all_held : (l : List ℕ) (n : ℕ) → length l ≡ n → n ≤ 64 → take n (in_places l) ≡ l
 all_held l n e h = ap (take n) (in_places_lem l (omega arith)) ∙ take_at l (replicate (64 - length l) 0) n e
-
--- the same where the count and the places are known by equations
-pub placed : (l p p' : List ℕ) (n x : ℕ) → n ≡ length l → n < 64 → p ≡ in_places l → p' ≡ set p n x → p' ≡ in_places (l ++ (x ∷ []))
-placed l p p' n x e h f g =
-    g ∙ ap (λ (m : ℕ). set p m x) e ∙ ap (λ (m : List ℕ). set m (length l) x) f ∙ one_more l x (omega arith)
-
-pub unplaced : (l p p' : List ℕ) (n x : ℕ) → n ≡ length l → 64 ≤ n → n ≤ 64 → p ≡ in_places l → p' ≡ p
-    → p' ≡ in_places (l ++ (x ∷ []))
-unplaced l p p' n x e h k f g = g ∙ f ∙ no_more l x (omega arith)

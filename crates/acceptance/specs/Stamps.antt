@@ -48,6 +48,22 @@ once_used holidays today c key = both (fails (eqb key 0)) (member key (live_once
 abbrev pub in_places : List ℕ → List ℕ
 in_places l = take 64 (l ++ replicate 64 0)
 
+-- the record with those alone that are not too old, in their order
+unfoldable pub with_live : (holidays : List ℕ) (today : Date) → Customer → Customer
+with_live holidays today c =
+    record {
+      who = c.who;
+      types = c.types;
+      agreed = c.agreed;
+      leave = c.leave;
+      length = c.length;
+      transport = c.transport;
+      working = c.working;
+      count = length (live_stamps holidays today c);
+      stamps = in_places (live_stamps holidays today c);
+      once = in_places (live_once holidays today c);
+    }
+
 -- the record with a stamp marked used: those that are not too old, in their order, then the new one, with the one-time key of a batch
 unfoldable pub with_stamp : (holidays : List ℕ) (today : Date) → Customer → (stamp once : ℕ) → Customer
 with_stamp holidays today c stamp once =

@@ -2,275 +2,229 @@
 
 #![tactic(auto)]
 
-ghost use Rattle.std.specs.Prelude.{◌≡◌, List, ℕ, ◌≤◌, length, take};
+ghost use Rattle.std.specs.Prelude.{◌≡◌, ◌≤◌, ◌&&◌, length, nat_eq, not};
 ghost use Rattle.calendar.specs.Banking.{earliest_good};
-ghost use Rattle.acceptance.specs.Stamps.{holds_stamp, stamp_old, live_stamps, live_once, once_used, in_places, with_stamp};
+ghost use Rattle.std.specs.List.{list_any, zip};
+ghost use Rattle.acceptance.specs.Stamps.{held_stamps, held_once, holds_stamp, stamp_old, live_stamps, once_used, with_live, with_stamp};
 ghost use Rattle.acceptance.specs.Grants.{granted_by};
 ghost use Rattle.acceptance.specs.Steps.{granted, under_previous, new_key, under_current};
 
+use calendar::Date;
+use customer::Customer;
+use keys::KeyMaker;
+
 // What acceptance grants: the code, the customer's record, the key to enclose, how many keys were made, the seed afterwards.
-#[derive(Drop)]
+#[derive(Clone, Copy, Debug, PartialEq, Eq)]
 pub struct Granted {
     pub code: u32,
-    pub customer: customer::Customer,
+    pub customer: Customer,
     pub enclosed: Option<u64>,
     pub made: u32,
     pub seed: u64,
 }
 
-// Stamps with their one-time keys, in 64 places, and how many they are.
-#[derive(Drop)]
-struct Live {
-    count: u32,
-    stamps: [u64; 64],
-    once: [u64; 64],
+// The stamps of accepted messages that the record holds.
+fn held_stamps(c: &Customer) -> &[u64]
+    ensures { result.now ≡ held_stamps c.now }
+{
+    &c.stamps[..c.stamps.len().min(c.count as usize)]
 }
 
-// How many of 64 places are held.
-fn places(count: u32) -> usize
-    ensures { (result ≤ 64) × ((l : List ℕ) → length l ≡ 64 → take count l ≡ take result l) }
+// Their one-time keys, 0 for an ESI.
+fn held_once(c: &Customer) -> &[u64]
+    ensures { result.now ≡ held_once c.now }
 {
-    if count < 64 {
-        return count as usize;
-    }
-    64
+    &c.once[..c.once.len().min(c.count as usize)]
 }
 
 // Whether the customer holds that stamp.
-pub fn holds_stamp(c: customer::Customer, stamp: u64) -> bool
+#[tactic(auto, unfolding(crate::specs::Stamps::holds_stamp), using(ground::proofs::Std::member_is))]
+pub fn holds_stamp(c: Customer, stamp: u64) -> bool
     ensures { result ≡ holds_stamp c stamp }
 {
-    let n = places(c.count);
-    let stamps = c.stamps;
-    let mut i = 0;
-    while i < n {
-        if stamps[i] == stamp {
-            return true;
-        }
-        i += 1;
-    }
-    false
+    held_stamps(&c).contains(&stamp)
 }
 
-// Whether a stamp's date is too old today, where e is the earliest date that is not. A day's number depends on six digits only.
-fn is_old(s: u64, e: calendar::Date, today: calendar::Date, holidays: &[u32]) -> bool
-    requires { e ≡ earliest_good holidays.now today }
-    ensures { result ≡ stamp_old holidays.now today s }
-{
-    let date = calendar::Date {
-        yymmdd: (s / 1000000000 % 1000000) as u32,
-    };
-    if date.is_real() {
-        if today.is_real() {
-            return date.before(e);
-        }
-    }
-    date.is_too_old(today, holidays)
+// A day with its bank's holidays, and the earliest date that isn't too old then.
+#[derive(Drop)]
+struct Day<'a> {
+    today: Date,
+    holidays: &'a [u32],
+    earliest: Date,
+    ghost first: { earliest ≡ earliest_good holidays.now today },
 }
 
-// The stamps that are not too old, in their order, from the front, with their one-time keys.
-fn keep_live(c: customer::Customer, today: calendar::Date, holidays: &[u32]) -> Live
-    ensures counted { (result.count ≤ 64) × (result.count ≡ length (live_stamps holidays.now today c))
-        × (result.count ≡ length (live_once holidays.now today c)) }
-    ensures placed { (result.stamps ≡ in_places (live_stamps holidays.now today c))
-        × (result.once ≡ in_places (live_once holidays.now today c)) }
-{
-    let e = today.earliest_good(holidays);
-    let held = places(c.count);
-    let stamps = c.stamps;
-    let once = c.once;
-    let mut kept = [0u64; 64];
-    let mut beside = [0u64; 64];
-    let mut m: usize = 0;
-    let mut i = 0;
-    while i < held {
-        let s = stamps[i];
-        if !is_old(s, e, today, holidays) {
-            kept[m] = s;
-            beside[m] = once[i];
-            m += 1;
+impl<'a> Day<'a> {
+    fn new(today: Date, holidays: &'a [u32]) -> Self
+        ensures { (result.today ≡ today) × (result.holidays.now ≡ holidays.now) }
+    {
+        Day {
+            today,
+            holidays,
+            earliest: today.earliest_good(holidays),
         }
-        i += 1;
     }
-    Live {
-        count: m as u32,
-        stamps: kept,
-        once: beside,
+
+    // Whether a stamp's date is too old on that day. A day's number depends on six digits only.
+    #[tactic(auto, using(crate::proofs::Digits::as_old, crate::proofs::Digits::old_before))]
+    fn is_old(&self, stamp: u64) -> bool
+        ensures { result ≡ stamp_old self.now.holidays.now self.now.today stamp }
+    {
+        let date = Date {
+            yymmdd: (stamp / 1000000000 % 1000000) as u32,
+        };
+        if date.is_real() && self.today.is_real() {
+            date.before(self.earliest)
+        } else {
+            date.is_too_old(self.today, self.holidays)
+        }
     }
 }
 
 // How many stamps of the customer are not too old.
-pub fn live_count(c: customer::Customer, today: calendar::Date, holidays: &[u32]) -> u32
+pub fn live_count(c: Customer, today: Date, holidays: &[u32]) -> u32
     ensures { result ≡ length (live_stamps holidays.now today c) }
 {
-    let l = keep_live(c, today, holidays);
-    l.count
+    let day = Day::new(today, holidays);
+    held_stamps(&c).iter().filter(|s| !day.is_old(**s)).count() as u32
+}
+
+// Whether the key stands beside a stamp that is not too old.
+fn is_beside(stamps: &[u64], once: &[u64], day: &Day<'_>, key: u64) -> bool
+    ensures { result
+        ≡ list_any
+        (λ p. nat_eq p.1 key && not (stamp_old day.now.holidays.now day.now.today p.0))
+        (zip stamps.now once.now) }
+{
+    stamps
+        .iter()
+        .zip(once)
+        .any(|(s, k)| *k == key && !day.is_old(*s))
 }
 
 // Whether a batch whose stamp is not too old had the same one-time key; 0 stands for none.
-pub fn is_once_used(
-    c: customer::Customer,
-    today: calendar::Date,
-    holidays: &[u32],
-    key: u64,
-) -> bool
+#[tactic(auto, unfolding(crate::specs::Stamps::once_used, ground::specs::Choice::both, ground::specs::Choice::fails), using(crate::proofs::Lives::live_any))]
+pub fn is_once_used(c: Customer, today: Date, holidays: &[u32], key: u64) -> bool
     ensures { result ≡ once_used holidays.now today c key }
 {
-    if key == 0 {
-        return false;
-    }
-    let e = today.earliest_good(holidays);
-    let n = places(c.count);
-    let stamps = c.stamps;
-    let once = c.once;
-    let mut i = 0;
-    while i < n {
-        if once[i] == key {
-            if !is_old(stamps[i], e, today, holidays) {
-                return true;
-            }
+    key != 0
+        && is_beside(
+            held_stamps(&c),
+            held_once(&c),
+            &Day::new(today, holidays),
+            key,
+        )
+}
+
+// The customer's record with the stamps that are not too old alone, in their order, from the front, with their one-time keys.
+fn with_live(c: Customer, day: &Day<'_>) -> Customer
+    ensures live { result ≡ with_live day.now.holidays.now day.now.today c }
+    ensures few { result.count ≤ 64 }
+{
+    let mut live = Customer {
+        count: 0,
+        stamps: [0; 64],
+        once: [0; 64],
+        ..c
+    };
+    for (s, k) in held_stamps(&c).iter().zip(held_once(&c)) {
+        if !day.is_old(*s) {
+            let n = live.count as usize;
+            live.stamps[n] = *s;
+            live.once[n] = *k;
+            live.count += 1;
         }
-        i += 1;
     }
-    false
+    live
 }
 
 // The customer's record with a stamp marked used, and the one-time key of its batch or 0; those that are too old are left out.
-pub fn with_stamp(
-    c: customer::Customer,
-    today: calendar::Date,
-    holidays: &[u32],
-    stamp: u64,
-    once: u64,
-) -> customer::Customer
+pub fn with_stamp(c: Customer, today: Date, holidays: &[u32], stamp: u64, once: u64) -> Customer
     ensures { result ≡ with_stamp holidays.now today c stamp once }
 {
-    let l = keep_live(c, today, holidays);
-    let count = l.count;
-    let n = count as usize;
-    let mut stamps = l.stamps;
-    let mut beside = l.once;
+    let mut live = with_live(c, &Day::new(today, holidays));
+    let n = live.count as usize;
     if n < 64 {
-        stamps[n] = stamp;
-        beside[n] = once;
+        live.stamps[n] = stamp;
+        live.once[n] = once;
     }
-    let who = c.who;
-    let length = c.length;
-    let transport = c.transport;
-    let working = c.working;
-    customer::Customer {
-        who: who,
-        types: c.types,
-        agreed: c.agreed,
-        leave: c.leave,
-        length: length,
-        transport: transport,
-        working: working,
-        count: count + 1,
-        stamps: stamps,
-        once: beside,
-    }
+    live.count += 1;
+    live
 }
 
 // The answer where no key was made.
-fn without_key(code: u32, c: customer::Customer, enclosed: Option<u64>, seed: u64) -> Granted
-    ensures { result ≡ granted code c enclosed 0 seed }
+fn without_key(code: u32, customer: Customer, enclosed: Option<u64>, seed: u64) -> Granted
+    ensures { result ≡ granted code customer enclosed 0 seed }
 {
     Granted {
-        code: code,
-        customer: c,
-        enclosed: enclosed,
+        code,
+        customer,
+        enclosed,
         made: 0,
-        seed: seed,
+        seed,
     }
 }
 
 // What a message under the previous working key is granted: the current key is enclosed.
-fn under_previous(c: customer::Customer, maker: keys::KeyMaker, request: u32) -> Granted
+#[tactic(auto, unfolding(crate::specs::Steps::under_previous, ground::specs::Choice::pick))]
+fn under_previous(c: Customer, maker: KeyMaker, request: u32) -> Granted
     ensures { result ≡ under_previous c maker request }
 {
-    let working = c.working;
-    let current = Some(working.key);
-    let none = None;
-    if request == 0 {
-        return without_key(1002, c, current, maker.seed);
+    let current = Some(c.working.key);
+    match request {
+        0 => without_key(1002, c, current, maker.seed),
+        1 => without_key(1003, c, current, maker.seed),
+        _ => without_key(1037, c, None, maker.seed),
     }
-    if request == 1 {
-        return without_key(1003, c, current, maker.seed);
-    }
-    without_key(1037, c, none, maker.seed)
 }
 
 // A new working key, which is enclosed.
-fn new_key(
-    c: customer::Customer,
-    maker: keys::KeyMaker,
-    clock: u64,
-    today: calendar::Date,
-) -> Granted
+#[tactic(auto, unfolding(crate::specs::Steps::new_key))]
+fn new_key(c: Customer, maker: KeyMaker, clock: u64, today: Date) -> Granted
     ensures { result ≡ new_key c maker clock today }
 {
     let mut seed = maker.seed;
     let key = keys::take_key(maker.key, &mut seed, clock);
-    let changed = changeover::with_working(c, key, today);
-    let enclosed = Some(key);
     Granted {
         code: 1003,
-        customer: changed,
-        enclosed: enclosed,
+        customer: changeover::with_working(c, key, today),
+        enclosed: Some(key),
         made: 1,
-        seed: seed,
+        seed,
     }
 }
 
 // What a message under the current working key is granted.
-fn under_current(
-    c: customer::Customer,
-    maker: keys::KeyMaker,
-    clock: u64,
-    today: calendar::Date,
-    request: u32,
-) -> Granted
+#[tactic(auto, unfolding(crate::specs::Steps::under_current, ground::specs::Choice::pick, ground::specs::Choice::fails))]
+fn under_current(c: Customer, maker: KeyMaker, clock: u64, today: Date, request: u32) -> Granted
     ensures { result ≡ under_current c maker clock today request }
 {
-    let none = None;
-    if request == 0 {
-        return without_key(1001, c, none, maker.seed);
+    let busy = changeover::is_changing(c.working.previous, today);
+    match request {
+        0 => without_key(1001, c, None, maker.seed),
+        1 if !c.leave => without_key(1004, c, None, maker.seed),
+        1 if busy => without_key(1005, c, None, maker.seed),
+        1 => new_key(c, maker, clock, today),
+        _ if busy => without_key(1036, changeover::without_previous(c), None, maker.seed),
+        _ => without_key(1037, c, None, maker.seed),
     }
-    let working = c.working;
-    let previous = working.previous;
-    let busy = changeover::is_changing(previous, today);
-    let leave = c.leave;
-    if request == 1 {
-        if !leave {
-            return without_key(1004, c, none, maker.seed);
-        }
-        if busy {
-            return without_key(1005, c, none, maker.seed);
-        }
-        return new_key(c, maker, clock, today);
-    }
-    if busy {
-        let dropped = changeover::without_previous(c);
-        return without_key(1036, dropped, none, maker.seed);
-    }
-    without_key(1037, c, none, maker.seed)
 }
 
 // What acceptance grants, by the generation of the working key that the message used and by its request.
+#[tactic(auto, unfolding(ground::specs::Choice::pick), using(crate::proofs::Rows::by_rows))]
 pub fn grant(
-    c: customer::Customer,
-    maker: keys::KeyMaker,
+    c: Customer,
+    maker: KeyMaker,
     clock: u64,
-    today: calendar::Date,
+    today: Date,
     generation: u32,
     request: u32,
 ) -> Granted
     ensures { result ≡ granted_by c maker clock today generation request }
 {
-    let working = c.working;
-    if working.generation == generation {
-        return under_current(c, maker, clock, today, request);
+    if c.working.generation == generation {
+        under_current(c, maker, clock, today, request)
+    } else {
+        under_previous(c, maker, request)
     }
-    under_previous(c, maker, request)
 }

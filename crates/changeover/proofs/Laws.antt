@@ -1,7 +1,7 @@
 -- Keys stay sound when one is changed: what is asked of the new ones follows from what is known of the old ones and of today.
 -- Assumes nothing.
 use Rattle.std.specs.Prelude.{None, Option, Some}
-use mathlib.Core.Path.{◌≡◌, refl, sym, ap, ◌∙◌}
+use mathlib.Core.Path.{◌≡◌, refl, sym, ◌∙◌}
 use mathlib.Core.Bool.{Bool, true, false}
 use Prim.Native.Nat.{ℕ, ◌+◌, ◌≤◌}
 use native.Mathlib.Omega.{arith}
@@ -40,27 +40,6 @@ module _ (k : KeyPair) (s : sound_keys k ≡ true) where
   keys_previous = right _ _ (right _ _ s)
 
 -- ---- a new key
-
--- the keys after a change whose last day is given
-abbrev pub changed_until : (old : KeyPair) (generation key : ℕ) (today last : Date) → KeyPair
-changed_until old generation key today last =
-    record {
-      generation = generation;
-      key = key;
-      previous =
-          Some
-          (record {
-            generation = old.generation;
-            key = old.key;
-            first = today;
-            last = last;
-          });
-    }
-
-pub until : (old : KeyPair) (generation key : ℕ) (today last : Date) (days : CalendarDays) → last ≡ later today days
-    → changed_until old generation key today last ≡ changed old generation key today days
-unfolding changed
-until old generation key today last days e = ap (changed_until old generation key today) e
 
 later_real : (d : Date) (n : CalendarDays) → real_date (later d n).yymmdd ≡ true
 unfolding later
