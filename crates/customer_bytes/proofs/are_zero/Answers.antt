@@ -1,23 +1,17 @@
--- The numbers that are left decide.
-use mathlib.Core.Path.{refl, sym, ◌∙◌}
-use native.Mathlib.Omega.{arith}
-use borrow.Author.Tests.{eq-eqb, ne_eqb}
-use Rattle.customer_bytes.specs.Tests.{zero_at}
-use Rattle.customer_bytes.proofs.Stamps.{run_stop, run_more, run_end}
+-- Their `|` tells.
+use mathlib.Core.Path.{ap, ◌∙◌}
+use Prim.Native.Nat.{ℕ}
+use lib.Dec.{eqb}
+use Rattle.std.proofs.Common.{rules, tests}
+use Rattle.std.specs.Int.Bits.{bit_or}
+use Rattle.std.proofs.lemmas.Iterator.{YieldsList-from_slice}
+use Rattle.std.proofs.lemmas.Iterator.Consumers.{fold_from_yields_List}
+use Rattle.customer_bytes.proofs.Zeros.{fold_zero}
 use Rattle.customer_bytes.proofs.are_zero.Goals as goal
 
-pub loop-left-init : goal.loop-left-init
-loop-left-init c = (refl, refl)
-
-pub returns-then-read8-ne0 : goal.returns-then-read8-ne0
-returns-then-read8-ne0 c =
-    run_stop (zero_at c.args.t.now) _ _ _ _ c.loop-left.invariant c.loop-left-test.true
-    (ne_eqb _ _ (λ e. c.if-read8-ne0.true (c.read8.ensures ∙ e)))
-
-pub loop-left-preserved : goal.loop-left-preserved
-loop-left-preserved c =
-    run_more (zero_at c.args.t.now) _ _ _ _ c.loop-left.invariant c.loop-left-test.true
-    (eq-eqb _ _ (sym c.read8.ensures ∙ c.if-read8-ne0.false))
-
 pub returns : goal.returns
-returns c = run_end (zero_at c.args.t.now) _ _ _ _ c.loop-left.invariant (omega arith)
+returns c =
+    let a = c.args in
+    ap (λ (x : ℕ). eqb x 0) (fold_from_yields_List _ bit_or 0 c.fold.result c.fold.ensures.ran
+    (YieldsList-from_slice a.bytes.now cc) (λ b x d q k. search (rules, tests)))
+    ∙ fold_zero 0 a.bytes.now
