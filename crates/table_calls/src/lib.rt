@@ -95,9 +95,11 @@ pub fn set_up(t: &mut [u8], s: Setting, holidays: &[u32]) -> Result<(), Refusal>
         (setting_up_leaves t.old s holidays.now) (code_of result) t.new }
 {
     setting_up_refusal(t, s, holidays)?;
+    let bank = s.bank;
+    let software = s.software;
     let settings = Settings {
-        bank: s.bank,
-        software: s.software,
+        bank,
+        software,
         floor: s.floor,
         maker: KeyMaker {
             key: s.key,
@@ -142,9 +144,10 @@ pub fn adding_refusal(t: &[u8], a: Adding) -> Result<(), Refusal>
 fn new_customer(a: Adding) -> Customer
     ensures { result ≡ new_customer a }
 {
+    let who = a.who;
     let key = keys::combine(a.part1, a.part2);
     Customer {
-        who: a.who,
+        who,
         types: a.types,
         agreed: a.agreed,
         leave: a.leave,

@@ -2,12 +2,13 @@
 use mathlib.Core.Path.{refl, ap, ◌∙◌}
 use Rattle.ground.proofs.Bools.{turned}
 use Rattle.refusals.specs.Refusals.{lowest, no_table}
+use Rattle.refusals.specs.Numbers.{number_of}
 use Rattle.refusals.proofs.Found.{held, more}
 use Rattle.table_calls.specs.Calls.{adding_refusals, adding_answer}
 use Rattle.table_calls.proofs.adding_refusal.Goals as goal
 
 pub returns : goal.returns
-unfolding adding_refusals adding_answer no_table
+unfolding adding_refusals adding_answer number_of no_table
 returns c =
     c.first_of.ensures
     ∙ ap lowest
