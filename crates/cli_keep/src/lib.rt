@@ -123,7 +123,7 @@ fn set_up_held(
 // The first n dates are the holidays.
 fn set_up_with(t: &mut [u8], s: &Setting, dates: &[u32], n: usize) -> u32 {
     match dates.get(..n) {
-        Some(dates) => table_calls::set_up(t, *s, dates),
+        Some(dates) => refusals::code(table_calls::set_up(t, *s, dates)),
         None => 11,
     }
 }
@@ -180,7 +180,7 @@ fn add_words(rt: &HostRuntime, words: &Words, table: &[u8]) -> Result<Status, To
 fn add_to(rt: &HostRuntime, words: &Words, table: &[u8], a: Adding) -> Result<Status, Told> {
     let mut t = [0u8; 49152];
     let h = loaded(rt, words, table, &mut t, a.today)?;
-    let refusal = table_calls::add(&mut t, a);
+    let refusal = refusals::code(table_calls::add(&mut t, a));
     if refusal == 0 {
         return saved(rt, table, &t, &h);
     }
@@ -230,7 +230,7 @@ pub fn key(rt: &HostRuntime, words: &Words) -> Result<Status, Told> {
 fn enter(rt: &HostRuntime, words: &Words, table: &[u8], e: Entering) -> Result<Status, Told> {
     let mut t = [0u8; 49152];
     let h = loaded(rt, words, table, &mut t, e.today)?;
-    let refusal = table_calls::enter(&mut t, e);
+    let refusal = refusals::code(table_calls::enter(&mut t, e));
     if refusal == 0 {
         return saved(rt, table, &t, &h);
     }
@@ -269,7 +269,7 @@ fn order_words(rt: &HostRuntime, words: &Words, table: &[u8]) -> Result<Status, 
 fn order_in(rt: &HostRuntime, words: &Words, table: &[u8], o: Ordering) -> Result<Status, Told> {
     let mut t = [0u8; 49152];
     let h = loaded(rt, words, table, &mut t, o.today)?;
-    let refusal = table_calls::order(&mut t, o);
+    let refusal = refusals::code(table_calls::order(&mut t, o));
     if refusal == 0 {
         return saved(rt, table, &t, &h);
     }

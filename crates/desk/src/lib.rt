@@ -2,11 +2,13 @@
 
 #![tactic(auto)]
 
-ghost use Rattle.std.specs.Prelude.{◌≡◌, List, [], ◌∷◌, ◌++◌, ◌+◌, ◌-◌, ◌<◌, ◌≤◌, None};
-ghost use Rattle.ground.specs.Choice.{both, fails};
+ghost use Rattle.std.specs.Prelude.{◌≡◌, List, [], ◌∷◌, ◌++◌, ◌+◌, ◌-◌, ◌<◌, ◌≤◌, ltb, None};
+ghost use Rattle.ground.specs.Choice.{both, either, fails};
 ghost use Rattle.ground.specs.Lists.{part, same};
 ghost use Rattle.text.specs.Numbers.{decimal, hex};
+ghost use Rattle.customer.specs.Settings.{sound_who};
 ghost use Rattle.refusals.specs.Refusals.{lowest};
+ghost use Rattle.refusals.specs.Numbers.{code_of};
 ghost use Rattle.message.specs.Order.{first_failing};
 ghost use Rattle.message.specs.Fields.{stamp_text_of};
 ghost use Rattle.desk.specs.Sent.{sent_by};
@@ -19,6 +21,7 @@ ghost use Rattle.desk.specs.Desk.{batch_sent_checks, desk_pte_checks, with_enclo
 ghost use Rattle.desk.specs.Desk.{checked_by, esi_checked, pte_checked};
 
 use message::{Check, Fault};
+use refusals::Refusal;
 
 // A key with its generation.
 #[derive(Clone, Copy, Debug, PartialEq, Eq)]
@@ -182,26 +185,29 @@ pub fn sent_by(first: [u8; 161], closing: [u8; 161]) -> Sent
 
 // ---- a desk is opened
 
-// The number of the refusal, 0 for none.
-fn opening_refusal(own: [u8; 25], bank: [u8; 25], p: Parts) -> u32
-    ensures { result ≡ lowest (opening_refusals own bank p) }
+// Whether a name or the generation is out of its limits.
+#[tactic(auto, unfolding(ground::specs::Choice::either, ground::specs::Choice::fails))]
+fn is_opening_out(own: [u8; 25], bank: [u8; 25], generation: u32) -> bool
+    ensures { result ≡ either (fails (sound_who own)) (either (fails (sound_who bank)) (ltb 9 generation)) }
 {
-    if refusals::is_even_part(p.part1, p.part2) {
-        return 8;
-    }
-    if refusals::is_other_check(p.part1, p.part2, p.check) {
-        return 9;
-    }
-    if !customer::is_sound_who(&own) {
-        return 11;
-    }
-    if !customer::is_sound_who(&bank) {
-        return 11;
-    }
-    if 9 < p.generation {
-        return 11;
-    }
-    0
+    !customer::is_sound_who(&own) || !customer::is_sound_who(&bank) || 9 < generation
+}
+
+// Why a desk can't be opened, if it can't.
+fn opening_refusal(own: [u8; 25], bank: [u8; 25], p: Parts) -> Result<(), Refusal>
+    ensures { code_of result ≡ lowest (opening_refusals own bank p) }
+{
+    refusals::first_of(&[
+        (refusals::is_even_part(p.part1, p.part2), Refusal::EvenPart),
+        (
+            refusals::is_other_check(p.part1, p.part2, p.check),
+            Refusal::OtherCheck,
+        ),
+        (
+            is_opening_out(own, bank, p.generation),
+            Refusal::OutOfLimits,
+        ),
+    ])
 }
 
 // A key without one before it.
@@ -247,35 +253,37 @@ pub fn no_desk() -> Held
 pub fn open(own: [u8; 25], bank: [u8; 25], p: Parts) -> Given
     ensures { result ≡ opening own bank p }
 {
-    let refusal = opening_refusal(own, bank, p);
-    if refusal != 0 {
-        return Given {
+    let outcome = opening_refusal(own, bank, p);
+    let refusal = refusals::code(outcome);
+    match outcome {
+        Ok(()) => Given {
+            refusal,
+            held: opened_desk(own, bank, p),
+        },
+        Err(_) => Given {
             refusal,
             held: no_desk(),
-        };
-    }
-    Given {
-        refusal,
-        held: opened_desk(own, bank, p),
+        },
     }
 }
 
 // ---- a transport key is entered
 
-// The number of the refusal, 0 for none.
-fn entering_refusal(h: Held, p: Parts) -> u32
-    ensures { result ≡ lowest (entering_refusals h p) }
+// Why a transport key can't be entered, if it can't.
+fn entering_refusal(h: Held, p: Parts) -> Result<(), Refusal>
+    ensures { code_of result ≡ lowest (entering_refusals h p) }
 {
-    if refusals::is_even_part(p.part1, p.part2) {
-        return 8;
-    }
-    if refusals::is_other_check(p.part1, p.part2, p.check) {
-        return 9;
-    }
-    if refusals::is_not_next(h.transport.generation, p.generation) {
-        return 10;
-    }
-    0
+    refusals::first_of(&[
+        (refusals::is_even_part(p.part1, p.part2), Refusal::EvenPart),
+        (
+            refusals::is_other_check(p.part1, p.part2, p.check),
+            Refusal::OtherCheck,
+        ),
+        (
+            refusals::is_not_next(h.transport.generation, p.generation),
+            Refusal::NotNext,
+        ),
+    ])
 }
 
 #[tactic(auto, unfolding(crate::specs::Held::entered_desk))]
@@ -293,13 +301,14 @@ fn entered_desk(h: Held, p: Parts) -> Held
 pub fn enter(h: Held, p: Parts) -> Given
     ensures { result ≡ entering h p }
 {
-    let refusal = entering_refusal(h, p);
-    if refusal != 0 {
-        return Given { refusal, held: h };
-    }
-    Given {
-        refusal,
-        held: entered_desk(h, p),
+    let outcome = entering_refusal(h, p);
+    let refusal = refusals::code(outcome);
+    match outcome {
+        Ok(()) => Given {
+            refusal,
+            held: entered_desk(h, p),
+        },
+        Err(_) => Given { refusal, held: h },
     }
 }
 

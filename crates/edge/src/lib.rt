@@ -82,7 +82,7 @@ pub extern "C" fn lp_set_up(
         key: k,
         seed: v,
     };
-    table_calls::set_up(table, s, holidays)
+    refusals::code(table_calls::set_up(table, s, holidays))
 }
 
 #[unsafe(no_mangle)]
@@ -116,7 +116,7 @@ pub extern "C" fn lp_add(
         leave: leave == 1,
         length: length_by(given, calendar::CalendarDays(length)),
     };
-    table_calls::add(table, a)
+    refusals::code(table_calls::add(table, a))
 }
 
 #[unsafe(no_mangle)]
@@ -141,7 +141,7 @@ pub extern "C" fn lp_enter(
         check: check as u64,
         generation,
     };
-    table_calls::enter(table, e)
+    refusals::code(table_calls::enter(table, e))
 }
 
 #[unsafe(no_mangle)]
@@ -155,7 +155,7 @@ pub extern "C" fn lp_order(table: &mut [u8], today: u32, who: &[u8], clock: u64)
         who: fixed25(who),
         clock,
     };
-    table_calls::order(table, o)
+    refusals::code(table_calls::order(table, o))
 }
 
 // A session's buffer of another length stands for a data type that is none.

@@ -348,7 +348,14 @@ fn passes(values: bool, k: Kind, exact: bool, blank_over: bool, number: u32, tex
 }
 
 // The lowest field that does not pass.
-fn first_broken(values: bool, code: u32, about: About, k: Kind, blank_over: bool, m: &[u8]) -> Result<(), Fault>
+fn first_broken(
+    values: bool,
+    code: u32,
+    about: About,
+    k: Kind,
+    blank_over: bool,
+    m: &[u8],
+) -> Result<(), Fault>
     ensures { result ≡ lowest_broken code about (passes_in values (form_of k) blank_over m.now) (layout k) }
 {
     let count = count_of(k);
@@ -380,7 +387,13 @@ fn first_fault(k: Kind, about: About, blank_over: bool, m: &[u8]) -> Result<(), 
 }
 
 // The first fault: of a message that is one record alone by what made it so.
-pub fn fault_of(k: Kind, about: About, extent: Extent, blank_over: bool, m: &[u8]) -> Result<(), Fault>
+pub fn fault_of(
+    k: Kind,
+    about: About,
+    extent: Extent,
+    blank_over: bool,
+    m: &[u8],
+) -> Result<(), Fault>
     ensures { result ≡ first_failing (form_checks (form_of k) about (record { extent = extent; blank = blank_over; text = m.now })) }
 {
     match extent {

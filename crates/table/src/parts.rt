@@ -7,7 +7,6 @@ ghost use Rattle.table.specs.Written.{settings_start, customers_start};
 ghost use Rattle.table.specs.Decode.{holiday_count, customer_count};
 ghost use Rattle.table.specs.Tests.{dates_at, customers_at, filled};
 
-
 pub(crate) const SIZE: usize = 49152;
 
 fn at_most(n: u32, most: u32) -> usize

@@ -134,7 +134,10 @@ pub fn adding_refusal(t: &[u8], a: Adding) -> Result<(), Refusal>
         (refusals::is_full(t), Refusal::TableFull),
         (refusals::is_there(t, a.who), Refusal::AlreadyThere),
         (refusals::is_even_part(a.part1, a.part2), Refusal::EvenPart),
-        (refusals::is_other_check(a.part1, a.part2, a.check), Refusal::OtherCheck),
+        (
+            refusals::is_other_check(a.part1, a.part2, a.check),
+            Refusal::OtherCheck,
+        ),
         (is_adding_out(a), Refusal::OutOfLimits),
     ])
 }
@@ -190,9 +193,18 @@ pub fn entering_refusal(t: &[u8], e: Entering) -> Result<(), Refusal>
         (refusals::is_bad_day(t, e.today), Refusal::BadDate),
         (!refusals::is_there(t, e.who), Refusal::Unknown),
         (refusals::is_even_part(e.part1, e.part2), Refusal::EvenPart),
-        (refusals::is_other_check(e.part1, e.part2, e.check), Refusal::OtherCheck),
-        (refusals::is_not_next(k.generation, e.generation), Refusal::NotNext),
-        (changeover::is_changing(k.previous, e.today), Refusal::StillChanging),
+        (
+            refusals::is_other_check(e.part1, e.part2, e.check),
+            Refusal::OtherCheck,
+        ),
+        (
+            refusals::is_not_next(k.generation, e.generation),
+            Refusal::NotNext,
+        ),
+        (
+            changeover::is_changing(k.previous, e.today),
+            Refusal::StillChanging,
+        ),
     ])
 }
 
@@ -222,7 +234,10 @@ pub fn ordering_refusal(t: &[u8], o: Ordering) -> Result<(), Refusal>
         (!table::is_table(t), Refusal::NoTable),
         (refusals::is_bad_day(t, o.today), Refusal::BadDate),
         (!refusals::is_there(t, o.who), Refusal::Unknown),
-        (changeover::is_changing(k.previous, o.today), Refusal::StillChanging),
+        (
+            changeover::is_changing(k.previous, o.today),
+            Refusal::StillChanging,
+        ),
     ])
 }
 

@@ -4,7 +4,7 @@ use vectors_words::{hex_at, holidays_at, small_at, who_at};
 // Sets a table up with the first of these holidays.
 fn set_up_with(t: &mut [u8], s: table_calls::Setting, days: [u32; 208], count: usize) -> u32 {
     let n = vectors_words::least(count, 208);
-    table_calls::set_up(t, s, &days[0..n])
+    refusals::code(table_calls::set_up(t, s, &days[0..n]))
 }
 
 // setup BANK SOFTWARE FLOOR K V HOLIDAY…
@@ -50,7 +50,7 @@ pub fn add(t: &mut [u8], line: &[u8]) -> u32 {
         leave: small_at(line, 9) == 1,
         length: length_at(line, 10),
     };
-    table_calls::add(t, a)
+    refusals::code(table_calls::add(t, a))
 }
 
 // key DATE WHO P1 P2 CHECK GENERATION
@@ -65,7 +65,7 @@ pub fn enter(t: &mut [u8], line: &[u8]) -> u32 {
         check: hex_at(line, 5),
         generation: small_at(line, 6),
     };
-    table_calls::enter(t, e)
+    refusals::code(table_calls::enter(t, e))
 }
 
 // order DATE WHO CLOCK
@@ -77,5 +77,5 @@ pub fn order(t: &mut [u8], line: &[u8]) -> u32 {
         who: who_at(line, 2),
         clock: hex_at(line, 3),
     };
-    table_calls::order(t, o)
+    refusals::code(table_calls::order(t, o))
 }

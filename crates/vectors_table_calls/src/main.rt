@@ -5,6 +5,7 @@
 use calendar::CalendarDays;
 use Option<calendar::CalendarDays>;
 use table_calls::{Adding, Entering, Ordering, Setting};
+use refusals::Refusal;
 
 const STDOUT_FILENO: i32 = 1;
 
@@ -26,8 +27,8 @@ fn say_number(label: &[u8], n: u64) {
 }
 
 // A label, and what a call answered.
-fn answer(label: &[u8], n: u32) {
-    say_number(label, n as u64);
+fn answer(label: &[u8], outcome: Result<(), Refusal>) {
+    say_number(label, refusals::code(outcome) as u64);
 }
 
 fn digit(x: u64) -> u8 {

@@ -1,13 +1,18 @@
--- Where nothing refuses, the key is entered.
-use mathlib.Core.Path.{refl}
+-- Where nothing refuses, the call is served.
+use mathlib.Core.Path.{refl, sym, ◌∙◌}
+use Rattle.refusals.proofs.Found.{not_served, served}
 use Rattle.desk.specs.Held.{entering}
 use Rattle.desk.proofs.Desks.{given_refused, given_served}
 use Rattle.desk.proofs.enter.Goals as goal
 
-pub returns-then-refusal-ne0 : goal.returns-then-refusal-ne0
+pub returns-in-Err : goal.returns-in-Err
 unfolding entering
-returns-then-refusal-ne0 c = given_refused _ _ _ _ _ c.entering_refusal-refusal.ensures c.if-refusal-ne0.true refl
+returns-in-Err c =
+    let n = c.code-refusal.ensures in
+    given_refused _ _ _ _ _ (n ∙ c.entering_refusal-outcome.ensures) (λ z. not_served _ _ c.in-Err.is (sym n ∙ z)) refl
 
-pub returns : goal.returns
+pub returns-in-Ok : goal.returns-in-Ok
 unfolding entering
-returns c = given_served _ _ _ _ _ c.entering_refusal-refusal.ensures c.if-refusal-ne0.false c.entered_desk-entered.ensures
+returns-in-Ok c =
+    let n = c.code-refusal.ensures in
+    given_served _ _ _ _ _ (n ∙ c.entering_refusal-outcome.ensures) (n ∙ served _ _ c.in-Ok.is) c.entered_desk.ensures

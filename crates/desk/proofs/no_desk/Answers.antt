@@ -4,4 +4,4 @@ use Rattle.desk.proofs.no_desk.Goals as goal
 
 pub returns : goal.returns
 unfolding no_desk
-returns c = rw c.only_key-none.ensures
+returns c = rw (c.only_key.ensures, c.only_key-2.ensures)

@@ -1,12 +1,18 @@
--- Where nothing refuses, the desk is opened.
+-- Where nothing refuses, the call is served.
+use mathlib.Core.Path.{sym, ◌∙◌}
+use Rattle.refusals.proofs.Found.{not_served, served}
 use Rattle.desk.specs.Held.{opening}
 use Rattle.desk.proofs.Desks.{given_refused, given_served}
 use Rattle.desk.proofs.open.Goals as goal
 
-pub returns-then-refusal-ne0 : goal.returns-then-refusal-ne0
+pub returns-in-Err : goal.returns-in-Err
 unfolding opening
-returns-then-refusal-ne0 c = given_refused _ _ _ _ _ c.opening_refusal-refusal.ensures c.if-refusal-ne0.true c.no_desk-none.ensures
+returns-in-Err c =
+    let n = c.code-refusal.ensures in
+    given_refused _ _ _ _ _ (n ∙ c.opening_refusal-outcome.ensures) (λ z. not_served _ _ c.in-Err.is (sym n ∙ z)) c.no_desk.ensures
 
-pub returns : goal.returns
+pub returns-in-Ok : goal.returns-in-Ok
 unfolding opening
-returns c = given_served _ _ _ _ _ c.opening_refusal-refusal.ensures c.if-refusal-ne0.false c.opened_desk-opened.ensures
+returns-in-Ok c =
+    let n = c.code-refusal.ensures in
+    given_served _ _ _ _ _ (n ∙ c.opening_refusal-outcome.ensures) (n ∙ served _ _ c.in-Ok.is) c.opened_desk.ensures

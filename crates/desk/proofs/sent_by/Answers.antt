@@ -10,12 +10,12 @@ unfolding sent_by field_text offset_in width_in pick
 returns c =
     let a = c.args in
     λ i. record {
-      receiver = c.receiver-receiver.ensures i;
-      sender = c.sender-sender.ensures i;
+      receiver = c.receiver.ensures i;
+      sender = c.sender.ensures i;
       transport = get_or a.closing 85 0;
       working = get_or a.closing 86 0;
-      stamp = c.stamp_in-stamp.ensures i;
+      stamp = c.stamp_in.ensures i;
       area = get_or a.first 102 0;
-      once = c.sixteen_at-once.ensures i;
-      digest = c.sixteen_at-digest.ensures i;
+      once = c.sixteen_at.ensures i;
+      digest = c.sixteen_at-2.ensures i;
     }

@@ -1,4 +1,5 @@
 -- The call below is handed what the numbers and bytes say.
+use mathlib.Core.Path.{◌∙◌}
 use Rattle.calls.specs.Calls.{refusal_of, left_by}
 use Rattle.edge.specs.Edge.{adding_by}
 use Rattle.edge.proofs.Made.{add_made}
@@ -11,4 +12,4 @@ returns c =
     let who = c.fixed25.ensures in
     let types = c.types_by.ensures in
     let length = c.length_by.ensures in
-    add_made (rw (← who, ← types, ← length) (k.answers, k.leaves))
+    add_made (rw (← who, ← types, ← length) (c.code.ensures ∙ k.answers, k.leaves))

@@ -1,4 +1,5 @@
 -- The call below is handed what the numbers and bytes say.
+use mathlib.Core.Path.{◌∙◌}
 use Rattle.calls.specs.Calls.{refusal_of, left_by}
 use Rattle.edge.specs.Edge.{setting_by}
 use Rattle.edge.proofs.Made.{set_up_made}
@@ -10,4 +11,4 @@ returns c =
     let k = c.set_up.ensures in
     let bank = c.fixed25.ensures in
     let software = c.fixed16.ensures in
-    set_up_made (rw (← bank, ← software) (k.answers, k.leaves))
+    set_up_made (rw (← bank, ← software) (c.code.ensures ∙ k.answers, k.leaves))
