@@ -27,6 +27,7 @@ fn bytes_at<const N: usize>(t: &[u8], at: usize) -> [u8; N]
     out
 }
 
+#[tactic(auto, using(ground::proofs::Parts::part1), unfolding(splices::specs::Bytes::num))]
 pub fn read1(t: &[u8], at: usize) -> u32
     requires { at + 1 ≤ length t.now }
     ensures { result ≡ num (part at 1 t.now) }
@@ -76,6 +77,7 @@ pub fn read_numbers(out: &mut [u64], t: &[u8], at: usize)
 
 // ---- writing
 
+#[tactic(auto, using(splices::proofs::Splice::set1), unfolding(splices::specs::Bytes::bytes_of))]
 pub fn write1(t: &mut [u8], at: usize, n: u32)
     requires { at + 1 ≤ length t.old }
     ensures { t.new ≡ splice at (bytes_of 1 n) t.old }

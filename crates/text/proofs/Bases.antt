@@ -3,11 +3,13 @@
 use mathlib.Core.Path.{◌≡◌, refl, sym, ap, ap₂, ◌∙◌}
 use mathlib.Core.Bool.{Bool, true, false}
 use mathlib.Core.List.{List, [], ◌∷◌, ◌++◌}
-use Prim.Native.Nat.{ℕ, zero, suc, ◌+◌, ◌-◌, ◌*◌, ◌/◌, ◌%◌, ◌≤◌, ◌<◌}
-use native.Mathlib.Nat.{mod-lt}
+use Prim.Native.Nat.{ℕ, zero, suc, ◌+◌, ◌-◌, ◌*◌, ◌/◌, ◌%◌, ◌^◌, ◌≤◌, ◌<◌, min}
+use native.Mathlib.Nat.{mod-lt, pow-le-pow_right}
 use native.Mathlib.Omega.{arith}
 use borrow.Author.Tests.{lt-ltb, le-ltb, ltb-true}
 use lib.Dec.{ltb}
+use lib.ListN.{length, take, length-take}
+use Rattle.ground.proofs.Parts.{take_kept}
 use Rattle.ground.specs.Choice.{both, pick}
 use Rattle.ground.proofs.Choices.{left, right, picks, skips, pick_same}
 use Rattle.ground.proofs.Bools.{picked}
@@ -117,3 +119,19 @@ unfolding digits_in decimal_digits
 decimal_digits_is zero x = refl
 decimal_digits_is (suc n) x =
     ap₂ (λ (l : List ℕ) (c : ℕ). l ++ (c ∷ [])) (decimal_digits_is n (x / 10)) (character_decimal x)
+
+-- of the first n characters
+first : (n m : ℕ) (l : List ℕ) → m ≡ min (length l) n → take m l ≡ take n l
+first n m l e =
+    let f : m ≡ length (take n l) = omega (arith, length-take n l) in
+    ap (λ (k : ℕ). take k l) f ∙ take_kept n l
+
+pub hex_read : (n m : ℕ) (l : List ℕ) → m ≡ min (length l) n → number_from 16 0 (take m l) ≡ hex_from 0 (take n l)
+hex_read n m l e = hex_is 0 (take m l) ∙ ap (hex_from 0) (first n m l e)
+
+pub decimal_read : (n m : ℕ) (l : List ℕ) → m ≡ min (length l) n → number_from 10 0 (take m l) ≡ decimal_from 0 (take n l)
+decimal_read n m l e = decimal_is 0 (take m l) ∙ ap (decimal_from 0) (first n m l e)
+
+pub hex_fits : (m : ℕ) (l : List ℕ) → m ≡ min (length l) 16 → 16 ^ length (take m l) ≤ 18446744073709551616
+hex_fits m l e =
+    omega (arith, pow-le-pow_right {n = 16} (omega arith) {i = length (take m l)} {j = 16} (omega (arith, length-take m l)))

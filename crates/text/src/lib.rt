@@ -93,6 +93,7 @@ fn number_in<const BASE: u64>(s: &[u8]) -> u64
 }
 
 // The number that digits write: of the first nineteen characters, which always fits.
+#[tactic(auto, using(crate::proofs::Bases::decimal_read))]
 pub fn number(s: &[u8]) -> u64
     ensures { result ≡ decimal (take 19 s.now) }
 {
@@ -100,6 +101,7 @@ pub fn number(s: &[u8]) -> u64
 }
 
 // The number that hex digits write: of the first sixteen characters, which always fits.
+#[tactic(auto, using(crate::proofs::Bases::hex_read, crate::proofs::Bases::hex_fits))]
 pub fn hex_number(s: &[u8]) -> u64
     ensures { result ≡ hex (take 16 s.now) }
 {
@@ -128,6 +130,7 @@ fn write_in<const BASE: u64>(out: &mut [u8], x: u64)
 }
 
 // The sixteen hex digits of a number.
+#[tactic(auto, using(crate::proofs::Bases::hex_digits_is))]
 pub fn hex_digits(x: u64) -> [u8; 16]
     ensures { result ≡ hex_digits 16 x }
 {
@@ -137,6 +140,7 @@ pub fn hex_digits(x: u64) -> [u8; 16]
 }
 
 // The lowest digits of a number, as many as there is room for.
+#[tactic(auto, using(crate::proofs::Bases::decimal_digits_is))]
 pub fn write_number(out: &mut [u8], x: u64)
     ensures { out.new ≡ decimal_digits (length out.old) x }
 {
