@@ -1,6 +1,6 @@
 -- The laws of the definitions that the proofs cite.
 -- Assumes nothing.
-use mathlib.Core.Path.{◌≡◌, refl, ap, ◌∙◌}
+use mathlib.Core.Path.{◌≡◌, refl, ap}
 use mathlib.Core.Bool.{true}
 use mathlib.Core.List.{List, [], ◌∷◌}
 use Prim.Native.Nat.{ℕ, zero, suc, ◌+◌, ◌-◌, ◌*◌, ◌^◌, ◌≤◌, ◌<◌}
@@ -9,7 +9,7 @@ use native.Mathlib.Numerals.{add-one}
 use native.Mathlib.Omega.{arith}
 use borrow.Author.Tests.{ltb-true, leb-true}
 use lib.Dec.{ltb, leb}
-use lib.Bits.{bit_xor}
+use lib.Bits.{bit_xor, xor_lt}
 use lib.ListN.{length, get_or, drop, drop_of_length-le}
 use lib.Seq.{drop-cons}
 use Rattle.des.specs.Des.{bit, select, permute, named, mixed, rotated, keys_from, schedule_of}
@@ -57,20 +57,15 @@ pub rounds_drop : (t ks : List ℕ) (i l r : ℕ) → i < length ks
 unfolding joined_rounds
 rounds_drop t ks i l r h = rw (add-one i, drop-cons ks i 0 h)
 
--- all sixteen
-pub rounds_done : (t ks : List ℕ) (i l r : ℕ) → 16 ≤ i → length ks ≡ 16 → joined_rounds t (drop i ks) l r ≡ r * 2 ^ 32 + l
+-- past the last
+pub rounds_done : (t ks : List ℕ) (i l r : ℕ) → length ks ≤ i → joined_rounds t (drop i ks) l r ≡ r * 2 ^ 32 + l
 unfolding joined_rounds
-rounds_done t ks i l r h e = rw (drop_of_length-le ks {i = i} (omega arith))
+rounds_done t ks i l r h = rw (drop_of_length-le ks {i = i} h)
 
--- a list by its elements from the i-th on
-abbrev pub entries : List ℕ → ℕ → ℕ → List ℕ
-entries l i zero = []
-entries l i (suc n) = get_or l i 0 ∷ entries l (suc i) n
+pub half_lt : (l m : ℕ) → l < 2 ^ 32 → m < 2 ^ 32 → bit_xor l m < 2 ^ 32
+half_lt l m p q = xor_lt 32 l m p q
 
-pub entries-drop : (l : List ℕ) (n i : ℕ) → i + n ≡ length l → drop i l ≡ entries l i n
-entries-drop l zero i h = drop_of_length-le l {i = i} (omega arith)
-entries-drop l (suc n) i h =
-    drop-cons l i 0 (omega arith) ∙ ap (λ (m : List ℕ). get_or l i 0 ∷ m) (entries-drop l n (suc i) (omega arith))
+pub ruleset rounds = (rounds_drop, rounds_done, half_lt)
 
 pub rotated-lt : (s c : ℕ) → 0 < s → s ≤ 2 → c < 2 ^ 28 → rotated s c < 2 ^ 28
 unfolding rotated

@@ -1,18 +1,20 @@
 -- The quick parts are what FIPS 46-3 says, by tests at the powers of two: the delta swaps IP and its inverse, the wrapped number's
 -- groups those of E.
 -- Assumes nothing.
-use mathlib.Core.Path.{◌≡◌, sym, ap, ap₂, ◌∙◌}
+use mathlib.Core.Path.{◌≡◌, sym, ap, ◌∙◌}
 use mathlib.Core.List.{List, [], ◌∷◌}
-use Prim.Native.Nat.{ℕ, ◌+◌, ◌-◌, ◌*◌, ◌/◌, ◌%◌, ◌^◌, ◌<◌}
+use Prim.Native.Nat.{ℕ, zero, suc, ◌+◌, ◌-◌, ◌*◌, ◌/◌, ◌%◌, ◌^◌, ◌<◌, ◌≤◌}
+use native.Mathlib.Numerals.{add-one}
+use native.Mathlib.Omega.{arith}
 use lib.Bits.{bit_xor, bit_and, xor_shr, xor_mod, xor_lt}
-use lib.Dec.{T, lit<}
+use lib.Dec.{T}
 use lib.ListN.{get_or}
 use mathlib.Core.Bool.{Bool}
 use Rattle.ground.specs.Choice.{both}
 use Rattle.ground.proofs.Table.{at}
 use Rattle.des.specs.Tables.{initial, final, expansion}
 use Rattle.des.specs.Des.{select, permute}
-use Rattle.des.specs.Joined.{entries_from, joined_mixed}
+use Rattle.des.specs.Joined.{entries_from}
 use Rattle.des.specs.Quick.{delta_swap, wrapped}
 use Rattle.des.proofs.Linear.{Linear, lin_id, lin_shr, lin_shl, lin_mod, lin_and, lin_xor, lin_after, lin_permute, same, agree}
 
@@ -97,44 +99,22 @@ pub group_at : (i : ℕ) → i < 8 → (r k : ℕ) → r < 2 ^ 32
 unfolding group_test
 group_at i hi r k h = group (28 - 4 * i) (42 - 6 * i) (groups_pass i hi) r k h
 
--- the entry of box i for its group
-entry_of : (t : List ℕ) (r k x i : ℕ) → i < 8 → r < 2 ^ 32 → x ≡ wrapped r
-    → get_or t (64 * i + bit_xor (x / 2 ^ (28 - 4 * i)) (k / 2 ^ (42 - 6 * i)) % 64) 0
-    ≡ get_or t (64 * i + bit_xor (permute expansion 32 r) k / 2 ^ (42 - 6 * i) % 64) 0
-entry_of t r k x i hi h ex =
-    ap (λ (y : ℕ). get_or t (64 * i + bit_xor (y / 2 ^ (28 - 4 * i)) (k / 2 ^ (42 - 6 * i)) % 64) 0) ex
-    ∙ ap (λ (v : ℕ). get_or t (64 * i + v) 0) (group_at i hi r k h)
+-- one box more, by its quick group, and past the last
+module _ (t : List ℕ) (r k acc i : ℕ) where
+  pub box_next : i < 8 → r < 2 ^ 32
+      → entries_from t (bit_xor (permute expansion 32 r) k)
+      (bit_xor acc (get_or t (64 * i + bit_xor (wrapped r / 2 ^ (28 - 4 * i)) (k / 2 ^ (42 - 6 * i)) % 64) 0)) (i + 1) (8 - (i + 1))
+      ≡ entries_from t (bit_xor (permute expansion 32 r) k) acc i (8 - i)
+  unfolding entries_from
+  box_next h p =
+      let s : 8 - i ≡ suc (8 - (i + 1)) = omega arith in
+      rw (s, group_at i h r k p, add-one i)
 
--- the entries of the quick groups, one after the other
-pub mixed_from : (t : List ℕ) (r k x e0 e1 e2 e3 e4 e5 e6 e7 : ℕ) → r < 2 ^ 32 → x ≡ wrapped r
-    → e0 ≡ get_or t (64 * 0 + bit_xor (x / 2 ^ 28) (k / 2 ^ 42) % 64) 0
-    → e1 ≡ get_or t (64 * 1 + bit_xor (x / 2 ^ 24) (k / 2 ^ 36) % 64) 0
-    → e2 ≡ get_or t (64 * 2 + bit_xor (x / 2 ^ 20) (k / 2 ^ 30) % 64) 0
-    → e3 ≡ get_or t (64 * 3 + bit_xor (x / 2 ^ 16) (k / 2 ^ 24) % 64) 0
-    → e4 ≡ get_or t (64 * 4 + bit_xor (x / 2 ^ 12) (k / 2 ^ 18) % 64) 0
-    → e5 ≡ get_or t (64 * 5 + bit_xor (x / 2 ^ 8) (k / 2 ^ 12) % 64) 0
-    → e6 ≡ get_or t (64 * 6 + bit_xor (x / 2 ^ 4) (k / 2 ^ 6) % 64) 0
-    → e7 ≡ get_or t (64 * 7 + bit_xor (x / 2 ^ 0) (k / 2 ^ 0) % 64) 0
-    → bit_xor (bit_xor (bit_xor (bit_xor (bit_xor (bit_xor (bit_xor e0 e1) e2) e3) e4) e5) e6) e7 ≡ joined_mixed t r k
-unfolding joined_mixed entries_from
-mixed_from t r k x e0 e1 e2 e3 e4 e5 e6 e7 h ex p0 p1 p2 p3 p4 p5 p6 p7 =
-    ap₂ bit_xor
-    (ap₂ bit_xor
-    (ap₂ bit_xor
-    (ap₂ bit_xor
-    (ap₂ bit_xor
-    (ap₂ bit_xor
-    (ap₂ bit_xor (p0 ∙ entry_of t r k x 0 (lit< tt) h ex) (p1 ∙ entry_of t r k x 1 (lit< tt) h ex))
-    (p2 ∙ entry_of t r k x 2 (lit< tt) h ex))
-    (p3 ∙ entry_of t r k x 3 (lit< tt) h ex))
-    (p4 ∙ entry_of t r k x 4 (lit< tt) h ex))
-    (p5 ∙ entry_of t r k x 5 (lit< tt) h ex))
-    (p6 ∙ entry_of t r k x 6 (lit< tt) h ex))
-    (p7 ∙ entry_of t r k x 7 (lit< tt) h ex)
+  pub box_last : 8 ≤ i → entries_from t (bit_xor (permute expansion 32 r) k) acc i (8 - i) ≡ acc
+  unfolding entries_from
+  box_last h = let s : 8 - i ≡ zero = omega arith in rw s
 
--- eight numbers of w bits joined have w bits
-pub joined_lt : (w a b c d e f g h : ℕ) → a < 2 ^ w → b < 2 ^ w → c < 2 ^ w → d < 2 ^ w → e < 2 ^ w → f < 2 ^ w → g < 2 ^ w → h < 2 ^ w
-    → bit_xor (bit_xor (bit_xor (bit_xor (bit_xor (bit_xor (bit_xor a b) c) d) e) f) g) h < 2 ^ w
-joined_lt w a b c d e f g h la lb lc ld le lf lg lh =
-    xor_lt w _ h
-    (xor_lt w _ g (xor_lt w _ f (xor_lt w _ e (xor_lt w _ d (xor_lt w _ c (xor_lt w a b la lb) lc) ld) le) lf) lg) lh
+pub word_lt : (a b : ℕ) → a < 2 ^ 32 → b < 2 ^ 32 → bit_xor a b < 2 ^ 32
+word_lt a b p q = xor_lt 32 a b p q
+
+pub ruleset boxes_joined = (box_next, box_last, word_lt)

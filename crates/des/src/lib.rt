@@ -11,6 +11,7 @@ ghost use Rattle.des.specs.Quick.{delta_swap, wrapped, turned, turned_from};
 mod tables;
 
 // PC-1: IP puts the bits of a column side by side, as PC-1 does, so eight groups are left to move.
+#[tactic(auto, using(crate::proofs::Keys::choice1_net_lem))]
 fn choice1_of(x: u64) -> u64
     ensures { result ≡ permute choice1 64 x }
 {
@@ -26,6 +27,7 @@ fn choice1_of(x: u64) -> u64
 }
 
 // PC-2, the bits that move alike moved together.
+#[tactic(auto, using(crate::proofs::Keys::choice2_net_lem))]
 fn choice2_of(x: u64) -> u64
     ensures { result ≡ permute choice2 56 x }
 {
@@ -60,58 +62,42 @@ fn choice2_of(x: u64) -> u64
         ^ ((x >> 30) & 0x000001000000)
 }
 
-// Both halves of a 56-bit number turned left by one.
-fn turn_once(x: u64) -> u64
-    requires { x < 2 ^ 56 }
-    ensures { (result ≡ turned 1 x) × (result < 2 ^ 56) }
-{
-    ((x << 1) & 0xffffffeffffffe) ^ ((x >> 27) & 0x10000001)
-}
+// How far both halves are turned before each round key.
+const SHIFTS: [u64; 16] = [1, 1, 2, 2, 2, 2, 2, 2, 1, 2, 2, 2, 2, 2, 2, 1];
 
-// Both halves turned left by two.
-fn turn_twice(x: u64) -> u64
-    requires { x < 2 ^ 56 }
-    ensures { (result ≡ turned 2 x) × (result < 2 ^ 56) }
+// Both halves of a 56-bit number turned left by one or two: the bits that stay in their half, and those that come round.
+#[tactic(auto, using(crate::proofs::Keys::turned_by, crate::proofs::Keys::turned_lt))]
+fn turn(x: u64, s: u64) -> u64
+    requires { (x < 2 ^ 56) × (0 < s) × (s < 3) }
+    ensures { (result ≡ turned s x) × (result < 2 ^ 56) }
 {
-    ((x << 2) & 0xffffffcffffffc) ^ ((x >> 26) & 0x30000003)
+    let round = 0x10000001 * (2 * s - 1);
+    ((x << s) & (0xffffffffffffff ^ round)) ^ ((x >> (28 - s)) & round)
 }
 
 // The halves before each round key.
+#[tactic(auto, using(crate::proofs::Keys::shift_low, crate::proofs::Keys::shift_high))]
 fn turns(x: u64) -> [u64; 16]
     requires { x < 2 ^ 56 }
     ensures { result ≡ turned_from shifts x }
 {
-    let x1 = turn_once(x);
-    let x2 = turn_once(x1);
-    let x3 = turn_twice(x2);
-    let x4 = turn_twice(x3);
-    let x5 = turn_twice(x4);
-    let x6 = turn_twice(x5);
-    let x7 = turn_twice(x6);
-    let x8 = turn_twice(x7);
-    let x9 = turn_once(x8);
-    let x10 = turn_twice(x9);
-    let x11 = turn_twice(x10);
-    let x12 = turn_twice(x11);
-    let x13 = turn_twice(x12);
-    let x14 = turn_twice(x13);
-    let x15 = turn_twice(x14);
-    let x16 = turn_once(x15);
-    [
-        x1, x2, x3, x4, x5, x6, x7, x8, x9, x10, x11, x12, x13, x14, x15, x16,
-    ]
+    let mut halves = [0; 16];
+    let mut x = x;
+    for i in 0..16 {
+        x = turn(x, SHIFTS[i]);
+        halves[i] = x;
+    }
+    halves
 }
 
 // The sixteen round keys, first to last. PC-2 has a loop of its own, so that it is compiled to do several keys at once.
+#[tactic(auto, using(crate::proofs::Keys::choice1_lt, crate::proofs::Keys::schedule_turned))]
 pub fn schedule(key: u64) -> [u64; 16]
     ensures { result ≡ schedule_of key }
 {
-    let halves = turns(choice1_of(key));
-    let mut ks = [0u64; 16];
-    let mut i = 0;
-    while i < 16 {
-        ks[i] = choice2_of(halves[i]);
-        i += 1;
+    let mut ks = turns(choice1_of(key));
+    for k in ks.iter_mut() {
+        *k = choice2_of(*k);
     }
     ks
 }
@@ -120,10 +106,9 @@ pub fn schedule(key: u64) -> [u64; 16]
 pub fn reversed(ks: [u64; 16]) -> [u64; 16]
     ensures { result ≡ reverse ks }
 {
-    [
-        ks[15], ks[14], ks[13], ks[12], ks[11], ks[10], ks[9], ks[8], ks[7], ks[6], ks[5], ks[4],
-        ks[3], ks[2], ks[1], ks[0],
-    ]
+    let mut back = ks;
+    back.reverse();
+    back
 }
 
 // Bits change places with those d above them: five such swaps are IP, and backwards its inverse.
@@ -136,6 +121,7 @@ fn delta(x: u64, d: u64, m: u64) -> u64
 }
 
 // IP. The two halves of a block on its way stand in one number, the left one above.
+#[tactic(auto, using(crate::proofs::Networks::initial_net))]
 pub fn first(block: u64) -> u64
     ensures { result ≡ permute initial 64 block }
 {
@@ -147,6 +133,7 @@ pub fn first(block: u64) -> u64
 }
 
 // The inverse of IP.
+#[tactic(auto, using(crate::proofs::Networks::final_net))]
 pub fn last(halves: u64) -> u64
     ensures { result ≡ permute final 64 halves }
 {
@@ -164,36 +151,26 @@ fn wrap(r: u64) -> u64
     ((r % 2) << 33) ^ (r << 1) ^ (r >> 31)
 }
 
-fn wide(x: u32) -> u64
-    ensures { (result ≡ x) × (result < 2 ^ 32) }
-{
-    x as u64
-}
-
 // What box i adds for the six bits v.
 fn entry(t: &[u32; 512], i: u64, v: u64) -> u64
     requires { (i < 8) × (v < 64) }
     ensures { (result ≡ get_or t.now (64 * i + v) 0) × (result < 2 ^ 32) }
 {
-    let n = (64 * i + v) as usize;
-    wide(t[n])
+    u64::from(t[(64 * i + v) as usize])
 }
 
 // The cipher function f(R, K): each entry is one box's share of it, P done.
+#[tactic(auto, using(crate::proofs::Networks::boxes_joined), unfolding(crate::specs::Joined::joined_mixed))]
 fn mix(t: &[u32; 512], r: u64, k: u64) -> u64
     requires { r < 2 ^ 32 }
     ensures { (result ≡ joined_mixed t.now r k) × (result < 2 ^ 32) }
 {
     let x = wrap(r);
-    let e0 = entry(t, 0, ((x >> 28) ^ (k >> 42)) % 64);
-    let e1 = entry(t, 1, ((x >> 24) ^ (k >> 36)) % 64);
-    let e2 = entry(t, 2, ((x >> 20) ^ (k >> 30)) % 64);
-    let e3 = entry(t, 3, ((x >> 16) ^ (k >> 24)) % 64);
-    let e4 = entry(t, 4, ((x >> 12) ^ (k >> 18)) % 64);
-    let e5 = entry(t, 5, ((x >> 8) ^ (k >> 12)) % 64);
-    let e6 = entry(t, 6, ((x >> 4) ^ (k >> 6)) % 64);
-    let e7 = entry(t, 7, ((x >> 0) ^ (k >> 0)) % 64);
-    e0 ^ e1 ^ e2 ^ e3 ^ e4 ^ e5 ^ e6 ^ e7
+    let mut joined = 0;
+    for i in 0..8 {
+        joined ^= entry(t, i, ((x >> (28 - 4 * i)) ^ (k >> (42 - 6 * i))) % 64);
+    }
+    joined
 }
 
 // The boxes joined with P. Whoever enciphers many blocks takes the table once and lends it.
@@ -204,23 +181,20 @@ pub fn joined_table() -> [u32; 512]
 }
 
 // Sixteen rounds and the exchange of the halves, between IP and its inverse, by a lent table.
+#[tactic(auto, using(crate::proofs::Laws::rounds), unfolding(crate::specs::Joined::between_by))]
 pub fn between(t: &[u32; 512], ks: [u64; 16], halves: u64) -> u64
     ensures { result ≡ between_by t.now ks halves }
 {
     let mut l = halves >> 32;
     let mut r = halves % 0x1_0000_0000;
-    let mut round = 0;
-    while round < 16 {
-        let k = ks[round];
-        let n = l ^ mix(t, r, k);
-        l = r;
-        r = n;
-        round += 1;
+    for k in ks {
+        (l, r) = (r, l ^ mix(t, r, k));
     }
     r * 0x1_0000_0000 + l
 }
 
 // A block under sixteen round keys, by a lent table.
+#[tactic(auto, using(crate::proofs::Joined::between_by_lem))]
 pub fn rounds_by(t: &[u32; 512], ks: [u64; 16], block: u64) -> u64
     ensures { result ≡ joined_by t.now ks block }
 {
@@ -228,11 +202,11 @@ pub fn rounds_by(t: &[u32; 512], ks: [u64; 16], block: u64) -> u64
 }
 
 // A block under sixteen round keys.
+#[tactic(auto, using(crate::proofs::Joined::joined_by_lem))]
 pub fn rounds(ks: [u64; 16], block: u64) -> u64
     ensures { result ≡ cipher ks block }
 {
-    let t = joined_table();
-    rounds_by(&t, ks, block)
+    rounds_by(&joined_table(), ks, block)
 }
 
 pub fn encipher(key: u64, block: u64) -> u64

@@ -1,23 +1,15 @@
--- Each number is the one before it turned by its shift.
-use Rattle.des.proofs.Keys.{turns_from}
+-- The halves made so far and those that the shifts left will make are all.
+use mathlib.Core.Path.{sym, ◌∙◌}
+use lib.ListN.{length-set}
+use Rattle.std.proofs.Common.{rules}
+use Rattle.des.proofs.Keys.{turns_next, turns_done}
 use Rattle.des.proofs.turns.Goals as goal
+
+pub loop-i-preserved : goal.loop-i-preserved
+loop-i-preserved c =
+    let i = c.loop-i.invariant in
+    (simp length-set i.0, search rules, turns_next _ _ _ _ c.turn-x.ensures.0 c.loop-i-test.true i.0 ∙ i.2)
 
 pub returns : goal.returns
 returns c =
-    turns_from _ _ _ _ _ _ _ _ _ _ _ _ _ _ _ _ _
-    c.turn_once-x1.ensures.0
-    c.turn_once-x2.ensures.0
-    c.turn_twice-x3.ensures.0
-    c.turn_twice-x4.ensures.0
-    c.turn_twice-x5.ensures.0
-    c.turn_twice-x6.ensures.0
-    c.turn_twice-x7.ensures.0
-    c.turn_twice-x8.ensures.0
-    c.turn_once-x9.ensures.0
-    c.turn_twice-x10.ensures.0
-    c.turn_twice-x11.ensures.0
-    c.turn_twice-x12.ensures.0
-    c.turn_twice-x13.ensures.0
-    c.turn_twice-x14.ensures.0
-    c.turn_twice-x15.ensures.0
-    c.turn_once-x16.ensures.0
+    let i = c.loop-i.invariant in sym (turns_done _ _ _ c.loop-i-test.false i.0) ∙ i.2
