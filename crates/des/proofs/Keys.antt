@@ -1,10 +1,10 @@
 -- The round keys' quick parts are what FIPS 46-3 says, by tests at the powers of two: the shifts and masks PC-1 and PC-2, and both halves
 -- turned at once the two rotated each for itself.
 -- Assumes nothing.
-use mathlib.Core.Path.{◌≡◌, refl, sym, ap, ap₂, ◌∙◌, subst⁻¹}
+use mathlib.Core.Path.{◌≡◌, refl, sym, ap, ap₂, ◌∙◌}
 use mathlib.Core.Bool.{true}
 use mathlib.Core.List.{List, [], ◌∷◌, ◌++◌, map, append_assoc, append-nil}
-use Prim.Native.Nat.{ℕ, suc, ◌+◌, ◌-◌, ◌*◌, ◌/◌, ◌%◌, ◌^◌, ◌<◌, ◌≤◌}
+use Prim.Native.Nat.{ℕ, zero, suc, ◌+◌, ◌-◌, ◌*◌, ◌/◌, ◌%◌, ◌^◌, ◌<◌, ◌≤◌}
 use native.Mathlib.Numerals.{add-one}
 use native.Mathlib.Omega.{arith}
 use lib.Bits.{bit_xor, bit_and, xor_shifted}
@@ -107,34 +107,55 @@ module _ (s : ℕ) (g : 0 < s) (g2 : s ≤ 2) (half : (c : ℕ) → c < 2 ^ 28 �
   halves_lt =
       omega (arith, rotated-lt s (x / 2 ^ 28) g g2 (omega arith), rotated-lt s (x % 2 ^ 28) g g2 (omega arith))
 
-pub turned_once : (x : ℕ) → x < 2 ^ 56
-    → (turn_net 1 0xffffffeffffffe 27 0x10000001 x ≡ turned 1 x) × (turn_net 1 0xffffffeffffffe 27 0x10000001 x < 2 ^ 56)
-unfolding both
-turned_once x h =
-    let e : turn_net 1 0xffffffeffffffe 27 0x10000001 x ≡ turned 1 x =
-    agree (turn_net 1 0xffffffeffffffe 27 0x10000001) (joined_halves 1) (lin_turn 1 0xffffffeffffffe 27 0x10000001) (lin_halves 1) 56 tt x h
-    ∙ halves 1 (lit< tt) (omega arith) half1 x h in
-    (e, subst⁻¹ (λ (y : ℕ). y < 2 ^ 56) e (halves_lt 1 (lit< tt) (omega arith) half1 x h))
+-- the bits that come round in a turn by one or two
+abbrev round : ℕ → ℕ
+round s = 0x10000001 * (2 * s - 1)
 
-pub turned_twice : (x : ℕ) → x < 2 ^ 56
-    → (turn_net 2 0xffffffcffffffc 26 0x30000003 x ≡ turned 2 x) × (turn_net 2 0xffffffcffffffc 26 0x30000003 x < 2 ^ 56)
+turned_net : (s x : ℕ) → 0 < s → s < 3 → x < 2 ^ 56
+    → (turn_net s (bit_xor 0xffffffffffffff (round s)) (28 - s) (round s) x ≡ turned s x) × (turned s x < 2 ^ 56)
 unfolding both
-turned_twice x h =
-    let e : turn_net 2 0xffffffcffffffc 26 0x30000003 x ≡ turned 2 x =
-    agree (turn_net 2 0xffffffcffffffc 26 0x30000003) (joined_halves 2) (lin_turn 2 0xffffffcffffffc 26 0x30000003) (lin_halves 2) 56 tt x h
-    ∙ halves 2 (lit< tt) (omega arith) half2 x h in
-    (e, subst⁻¹ (λ (y : ℕ). y < 2 ^ 56) e (halves_lt 2 (lit< tt) (omega arith) half2 x h))
+turned_net zero x p q h = absurd (omega arith)
+turned_net (suc zero) x p q h = (
+  agree (turn_net 1 0xffffffeffffffe 27 0x10000001) (joined_halves 1) (lin_turn 1 0xffffffeffffffe 27 0x10000001) (lin_halves 1) 56 tt x h
+      ∙ halves 1 (lit< tt) (omega arith) half1 x h,
+  halves_lt 1 (lit< tt) (omega arith) half1 x h,
+)
+turned_net (suc (suc zero)) x p q h = (
+  agree (turn_net 2 0xffffffcffffffc 26 0x30000003) (joined_halves 2) (lin_turn 2 0xffffffcffffffc 26 0x30000003) (lin_halves 2) 56 tt x h
+      ∙ halves 2 (lit< tt) (omega arith) half2 x h,
+  halves_lt 2 (lit< tt) (omega arith) half2 x h,
+)
+turned_net (suc (suc (suc s))) x p q h = absurd (omega arith)
+
+pub turned_by : (s x : ℕ) → 0 < s → s < 3 → x < 2 ^ 56
+    → bit_xor (bit_and (x * 2 ^ s % 2 ^ 64) (bit_xor 0xffffffffffffff (0x10000001 * (2 * s - 1)))) (bit_and (x / 2 ^ (28 - s)) (0x10000001 * (2 * s - 1)))
+    ≡ turned s x
+turned_by s x p q h = (turned_net s x p q h).0
+
+pub turned_lt : (s x : ℕ) → 0 < s → s < 3 → x < 2 ^ 56 → turned s x < 2 ^ 56
+turned_lt s x p q h = (turned_net s x p q h).1
 
 -- ---- the schedule
 
--- sixteen numbers, each the one before it turned
-pub turns_from : (x a b c d e f g h i j k l m n o p : ℕ)
-    → a ≡ turned 1 x → b ≡ turned 1 a → c ≡ turned 2 b → d ≡ turned 2 c → e ≡ turned 2 d → f ≡ turned 2 e → g ≡ turned 2 f → h ≡ turned 2 g
-    → i ≡ turned 1 h → j ≡ turned 2 i → k ≡ turned 2 j → l ≡ turned 2 k → m ≡ turned 2 l → n ≡ turned 2 m → o ≡ turned 2 n → p ≡ turned 1 o
-    → a ∷ b ∷ c ∷ d ∷ e ∷ f ∷ g ∷ h ∷ i ∷ j ∷ k ∷ l ∷ m ∷ n ∷ o ∷ p ∷ [] ≡ turned_from shifts x
+-- each shift is one or two
+pub shift_low : (i : ℕ) → i < 16 → 0 < get_or shifts i 0
+unfolding named both
+shift_low i h = (named_at 2 shifts refl i h).0
+
+pub shift_high : (i : ℕ) → i < 16 → get_or shifts i 0 < 3
+unfolding named both
+shift_high i h = omega (arith, (named_at 2 shifts refl i h).1)
+
+-- the halves before one round key more, and all
+pub turns_next : (i x y : ℕ) (hs : List ℕ) → y ≡ turned (get_or shifts i 0) x → i < 16 → length hs ≡ 16
+    → take (i + 1) (set hs i y) ++ turned_from (drop (i + 1) shifts) y ≡ take i hs ++ turned_from (drop i shifts) x
 unfolding turned_from
-turns_from x a b c d e f g h i j k l m n o p ea eb ec ed ee ef eg eh ei ej ek el em en eo ep =
-    rw (sym ea, sym eb, sym ec, sym ed, sym ee, sym ef, sym eg, sym eh, sym ei, sym ej, sym ek, sym el, sym em, sym en, sym eo, sym ep)
+turns_next i x y hs e h l =
+    rw (e, add-one i, drop-cons shifts i 0 h, take-suc-set hs i _ (omega arith), append_assoc)
+
+pub turns_done : (i x : ℕ) (hs : List ℕ) → 16 ≤ i → length hs ≡ 16 → take i hs ++ turned_from (drop i shifts) x ≡ hs
+unfolding turned_from
+turns_done i x hs h l = rw (drop_of_length-le shifts {i = i} h, take_all i hs (omega arith), append-nil)
 
 keys_turned : (ss : List ℕ) → named 2 ss ≡ true → (c d : ℕ) → c < 2 ^ 28 → d < 2 ^ 28
     → keys_from ss c d ≡ map (permute choice2 56) (turned_from ss (c * 2 ^ 28 + d))
@@ -153,11 +174,6 @@ schedule_turned key =
     let b : p < 2 ^ 56 = permute-lt choice1 64 key in
     ap (λ (x : ℕ). map (permute choice2 56) (turned_from shifts x)) (sym (split p 28))
     ∙ sym (keys_turned shifts refl (p / 2 ^ 28) (p % 2 ^ 28) (omega arith) (omega arith))
-
-pub turned-length : (ss : List ℕ) (x : ℕ) → length (turned_from ss x) ≡ length ss
-unfolding turned_from
-turned-length [] x = refl
-turned-length (s ∷ ss) x = ap suc (turned-length ss (turned s x))
 
 pub choice1_lt : (key : ℕ) → permute choice1 64 key < 2 ^ 56
 choice1_lt key = permute-lt choice1 64 key

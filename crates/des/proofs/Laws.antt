@@ -1,6 +1,6 @@
 -- The laws of the definitions that the proofs cite.
 -- Assumes nothing.
-use mathlib.Core.Path.{◌≡◌, refl, ap, ◌∙◌}
+use mathlib.Core.Path.{◌≡◌, refl, ap}
 use mathlib.Core.Bool.{true}
 use mathlib.Core.List.{List, [], ◌∷◌}
 use Prim.Native.Nat.{ℕ, zero, suc, ◌+◌, ◌-◌, ◌*◌, ◌^◌, ◌≤◌, ◌<◌}
@@ -66,16 +66,6 @@ pub half_lt : (l m : ℕ) → l < 2 ^ 32 → m < 2 ^ 32 → bit_xor l m < 2 ^ 32
 half_lt l m p q = xor_lt 32 l m p q
 
 pub ruleset rounds = (rounds_drop, rounds_done, half_lt)
-
--- a list by its elements from the i-th on
-abbrev pub entries : List ℕ → ℕ → ℕ → List ℕ
-entries l i zero = []
-entries l i (suc n) = get_or l i 0 ∷ entries l (suc i) n
-
-pub entries-drop : (l : List ℕ) (n i : ℕ) → i + n ≡ length l → drop i l ≡ entries l i n
-entries-drop l zero i h = drop_of_length-le l {i = i} (omega arith)
-entries-drop l (suc n) i h =
-    drop-cons l i 0 (omega arith) ∙ ap (λ (m : List ℕ). get_or l i 0 ∷ m) (entries-drop l n (suc i) (omega arith))
 
 pub rotated-lt : (s c : ℕ) → 0 < s → s ≤ 2 → c < 2 ^ 28 → rotated s c < 2 ^ 28
 unfolding rotated

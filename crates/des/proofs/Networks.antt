@@ -1,20 +1,20 @@
 -- The quick parts are what FIPS 46-3 says, by tests at the powers of two: the delta swaps IP and its inverse, the wrapped number's
 -- groups those of E.
 -- Assumes nothing.
-use mathlib.Core.Path.{◌≡◌, sym, ap, ap₂, ◌∙◌}
+use mathlib.Core.Path.{◌≡◌, sym, ap, ◌∙◌}
 use mathlib.Core.List.{List, [], ◌∷◌}
 use Prim.Native.Nat.{ℕ, zero, suc, ◌+◌, ◌-◌, ◌*◌, ◌/◌, ◌%◌, ◌^◌, ◌<◌, ◌≤◌}
 use native.Mathlib.Numerals.{add-one}
 use native.Mathlib.Omega.{arith}
 use lib.Bits.{bit_xor, bit_and, xor_shr, xor_mod, xor_lt}
-use lib.Dec.{T, lit<}
+use lib.Dec.{T}
 use lib.ListN.{get_or}
 use mathlib.Core.Bool.{Bool}
 use Rattle.ground.specs.Choice.{both}
 use Rattle.ground.proofs.Table.{at}
 use Rattle.des.specs.Tables.{initial, final, expansion}
 use Rattle.des.specs.Des.{select, permute}
-use Rattle.des.specs.Joined.{entries_from, joined_mixed}
+use Rattle.des.specs.Joined.{entries_from}
 use Rattle.des.specs.Quick.{delta_swap, wrapped}
 use Rattle.des.proofs.Linear.{Linear, lin_id, lin_shr, lin_shl, lin_mod, lin_and, lin_xor, lin_after, lin_permute, same, agree}
 

@@ -62,49 +62,32 @@ fn choice2_of(x: u64) -> u64
         ^ ((x >> 30) & 0x000001000000)
 }
 
-// Both halves of a 56-bit number turned left by one.
-#[tactic(auto, using(crate::proofs::Keys::turned_once))]
-fn turn_once(x: u64) -> u64
-    requires { x < 2 ^ 56 }
-    ensures { (result ≡ turned 1 x) × (result < 2 ^ 56) }
-{
-    ((x << 1) & 0xffffffeffffffe) ^ ((x >> 27) & 0x10000001)
-}
+// How far both halves are turned before each round key.
+const SHIFTS: [u64; 16] = [1, 1, 2, 2, 2, 2, 2, 2, 1, 2, 2, 2, 2, 2, 2, 1];
 
-// Both halves turned left by two.
-#[tactic(auto, using(crate::proofs::Keys::turned_twice))]
-fn turn_twice(x: u64) -> u64
-    requires { x < 2 ^ 56 }
-    ensures { (result ≡ turned 2 x) × (result < 2 ^ 56) }
+// Both halves of a 56-bit number turned left by one or two: the bits that stay in their half, and those that come round.
+#[tactic(auto, using(crate::proofs::Keys::turned_by, crate::proofs::Keys::turned_lt))]
+fn turn(x: u64, s: u64) -> u64
+    requires { (x < 2 ^ 56) × (0 < s) × (s < 3) }
+    ensures { (result ≡ turned s x) × (result < 2 ^ 56) }
 {
-    ((x << 2) & 0xffffffcffffffc) ^ ((x >> 26) & 0x30000003)
+    let round = 0x10000001 * (2 * s - 1);
+    ((x << s) & (0xffffffffffffff ^ round)) ^ ((x >> (28 - s)) & round)
 }
 
 // The halves before each round key.
-#[tactic(auto, unfolding(crate::specs::Quick::turned_from))]
+#[tactic(auto, using(crate::proofs::Keys::shift_low, crate::proofs::Keys::shift_high))]
 fn turns(x: u64) -> [u64; 16]
     requires { x < 2 ^ 56 }
     ensures { result ≡ turned_from shifts x }
 {
-    let x1 = turn_once(x);
-    let x2 = turn_once(x1);
-    let x3 = turn_twice(x2);
-    let x4 = turn_twice(x3);
-    let x5 = turn_twice(x4);
-    let x6 = turn_twice(x5);
-    let x7 = turn_twice(x6);
-    let x8 = turn_twice(x7);
-    let x9 = turn_once(x8);
-    let x10 = turn_twice(x9);
-    let x11 = turn_twice(x10);
-    let x12 = turn_twice(x11);
-    let x13 = turn_twice(x12);
-    let x14 = turn_twice(x13);
-    let x15 = turn_twice(x14);
-    let x16 = turn_once(x15);
-    [
-        x1, x2, x3, x4, x5, x6, x7, x8, x9, x10, x11, x12, x13, x14, x15, x16,
-    ]
+    let mut halves = [0; 16];
+    let mut x = x;
+    for i in 0..16 {
+        x = turn(x, SHIFTS[i]);
+        halves[i] = x;
+    }
+    halves
 }
 
 // The sixteen round keys, first to last. PC-2 has a loop of its own, so that it is compiled to do several keys at once.

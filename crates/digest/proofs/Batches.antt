@@ -1,10 +1,11 @@
 -- Records on their way: the state after the last character that is no
 -- blank is the one that the record without the blanks at its end leads to.
 -- Assumes nothing.
-use Rattle.std.proofs.Common.{◌≡◌, ℕ, zero, suc, ◌-◌, ◌^◌, ◌<◌, ◌≤◌, Bool, true, false, eqb, List, [], ◌∷◌, map, length, take, drop, sym, refl, ap, ◌∙◌, ap₂, not-suc-le-zero, arith, length-drop, length-take, take_all}
+use Rattle.std.proofs.Common.{◌≡◌, ℕ, zero, suc, ◌-◌, ◌^◌, ◌<◌, ◌≤◌, min, Bool, true, false, eqb, List, [], ◌∷◌, map, length, take, drop, sym, refl, ap, ◌∙◌, ap₂, not-suc-le-zero, ⊎_elim, arith, length-drop, length-take, take_all}
 use lib.ListN.{length-map}
 use Rattle.ground.specs.Choice.{both, pick}
 use Rattle.ground.proofs.Choices.{skips}
+use Rattle.ground.proofs.Numbers.{below}
 use Rattle.text.specs.Characters.{blank, internal}
 use Rattle.des.specs.Des.{schedule_of, enciphered}
 use Rattle.des.specs.Joined.{joined, joined_by}
@@ -149,17 +150,21 @@ module _ (e : ℕ → ℕ) where
       ap (λ (r : Running). answered e r.start) (records_stand m begun records)
       ∙ answered-mac e (kept m records) (kept_bytes m records) h
 
-  -- one record's digest with all of its blanks
-  pub took_mac : (p : List ℕ) → length p < 2 ^ 64 → closed e (took_bytes e (alike begun) p).last ≡ mac e (map internal p)
-  took_mac p h =
-      ap (λ (r : Running). closed e r.last) (took_stands begun p)
-      ∙ closed-mac e (map internal p) (internal_bytes p) (rw (length-map p internal) h)
+-- the characters that a checksum covers
+covered : (l : List ℕ) (n : ℕ) → n ≡ min (length l) 144 → take n l ≡ take 144 l
+covered l n e =
+    ⊎_elim
+    (λ h. let a : n ≡ length l = omega arith in rw a (take_all (length l) l (omega arith) ∙ sym (take_all 144 l (omega arith))))
+    (λ h. let a : n ≡ 144 = omega arith in rw a)
+    (below (length l) 144)
 
 -- the checksum by what each call gives
-module _ (key : ℕ) (message : List ℕ) {m t k : List ℕ} {s : State} {r x : Running} where
-  pub checksum_made : t ≡ joined → k ≡ schedule_of key → s ≡ begun → r ≡ alike s → m ≡ take 144 message → x ≡ took_bytes (joined_by t k) r m
-      → closed (joined_by t k) x.last ≡ checksum_of key message
+module _ (key : ℕ) (message : List ℕ) {n : ℕ} {t k : List ℕ} {s x : State} where
+  pub checksum_made : n ≡ min (length message) 144 → t ≡ joined → k ≡ schedule_of key → s ≡ begun
+      → x ≡ fed_bytes (joined_by t k) s (map internal (take n message))
+      → closed (joined_by t k) x ≡ checksum_of key message
   unfolding checksum_of
-  checksum_made et ek es er em ex =
-      rw (ex, er, es, em, et, ek, joined-cipher (schedule_of key))
-      (took_mac (enciphered key) (take 144 message) (omega (arith, length-take 144 message)))
+  checksum_made en et ek es ex =
+      let l : List ℕ = take 144 message in
+      rw (ex, covered message n en, es, et, ek, joined-cipher (schedule_of key))
+      (closed-mac (enciphered key) (map internal l) (internal_bytes l) (omega (arith, length-map l internal, length-take 144 message)))

@@ -18,10 +18,10 @@ use Rattle.digest.proofs.Folds.{fed_eighth, fed_other, fed_append}
 
 module _ (block : ℕ) (l : List ℕ) (i : ℕ) where
   -- the character at i is taken
-  pub packed_drop : {x : ℕ} → i < length l → x ≡ pushed block (internal (get_or l i 0))
-      → pushed_all x (map internal (drop (i + 1) l)) ≡ pushed_all block (map internal (drop i l))
+  pub packed_next : i < length l
+      → pushed_all (pushed block (internal (get_or l i 0))) (map internal (drop (i + 1) l)) ≡ pushed_all block (map internal (drop i l))
   unfolding pushed_all
-  packed_drop h e = rw (e, add-one i, drop-cons l i 0 h)
+  packed_next h = rw (add-one i, drop-cons l i 0 h)
 
   pub packed_done : length l ≤ i → pushed_all block (map internal (drop i l)) ≡ block
   unfolding pushed_all
@@ -80,47 +80,39 @@ abbrev pub halved : ℕ → ℕ → State
 halved y n = record { chain = permute final 64 y; block = 0; n = n }
 
 module _ (t ks : List ℕ) where
-  -- the characters that fill the first block
-  pub fed_head : (s : State) (l : List ℕ) (i : ℕ) {x n : ℕ} → i ≤ length l → i ≡ 8 - s.n % 8
-      → x ≡ between_by t ks (permute initial 64 (bit_xor s.chain (pushed_all s.block (map internal (take i l)))))
-      → n ≡ (s.n + i) % 2 ^ 64
-      → fed_bytes (joined_by t ks) (halved x n) (map internal (drop i l)) ≡ fed_bytes (joined_by t ks) s (map internal l)
-  fed_head s l i h k p q =
+  -- the characters that fill the first block, and those after them
+  pub fed_head : (s : State) (l head rest : List ℕ) (i : ℕ) {x : ℕ} → i ≤ length l → i ≡ 8 - s.n % 8 → head ≡ take i l → rest ≡ drop i l
+      → x ≡ between_by t ks (permute initial 64 (bit_xor s.chain (pushed_all s.block (map internal head))))
+      → fed_bytes (joined_by t ks) (halved x ((s.n + i) % 2 ^ 64)) (map internal rest) ≡ fed_bytes (joined_by t ks) s (map internal l)
+  fed_head s l head rest i h k eh er p =
       let p8 : List ℕ = map internal (take i l) in
       let c : length p8 ≡ i = length-map (take i l) internal ∙ length-take-le i l h in
-      ap (λ (u : State). fed_bytes (joined_by t ks) u (map internal (drop i l)))
+      rw er
+      (ap (λ (u : State). fed_bytes (joined_by t ks) u (map internal (drop i l)))
       (ap₂ (λ (m v : ℕ). record { chain = m; block = 0; n = v })
-      (ap (permute final 64) p ∙ between_by_lem t ks (bit_xor s.chain (pushed_all s.block p8)))
-      (q ∙ ap (λ (m : ℕ). (s.n + m) % 2 ^ 64) (sym c))
+      (ap (permute final 64) (rw eh at p) ∙ between_by_lem t ks (bit_xor s.chain (pushed_all s.block p8)))
+      (ap (λ (m : ℕ). (s.n + m) % 2 ^ 64) (sym c))
       ∙ fed_fills (joined_by t ks) s p8 (omega arith))
-      ∙ fed_cut (joined_by t ks) s l i
+      ∙ fed_cut (joined_by t ks) s l i)
 
   -- a block more
-  pub fed_block : (y n : ℕ) (l : List ℕ) (i : ℕ) {x m : ℕ} → y < 2 ^ 64 → n % 8 ≡ 0 → i + 8 ≤ length l
-      → x ≡ between_by t ks (bit_xor y (permute initial 64 (pushed_all 0 (map internal (take (i + 8 - i) (drop i l))))))
-      → m ≡ (n + 8) % 2 ^ 64
-      → fed_bytes (joined_by t ks) (halved x m) (map internal (drop (i + 8) l)) ≡ fed_bytes (joined_by t ks) (halved y n) (map internal (drop i l))
-  fed_block y n l i f z h p q =
-      let d : i + 8 - i ≡ 8 = omega arith in
-      let p8 : List ℕ = map internal (take 8 (drop i l)) in
-      let c : length p8 ≡ 8 = length-map (take 8 (drop i l)) internal ∙ length-take-le 8 (drop i l) (omega (arith, length-drop i l)) in
-      ap₂ (λ (u : State) (r : List ℕ). fed_bytes (joined_by t ks) u (map internal r))
+  pub fed_block : (y n : ℕ) (l block rest : List ℕ) {x : ℕ} → y < 2 ^ 64 → n % 8 ≡ 0 → 8 ≤ length l → block ≡ take 8 l → rest ≡ drop 8 l
+      → x ≡ between_by t ks (bit_xor y (permute initial 64 (pushed_all 0 (map internal block))))
+      → fed_bytes (joined_by t ks) (halved x ((n + 8) % 2 ^ 64)) (map internal rest) ≡ fed_bytes (joined_by t ks) (halved y n) (map internal l)
+  fed_block y n l block rest f z h eb er p =
+      let p8 : List ℕ = map internal (take 8 l) in
+      let c : length p8 ≡ 8 = length-map (take 8 l) internal ∙ length-take-le 8 l h in
+      rw er
+      (ap (λ (u : State). fed_bytes (joined_by t ks) u (map internal (drop 8 l)))
       (ap₂ (λ (c v : ℕ). record { chain = c; block = 0; n = v })
-      (ap (permute final 64) (p ∙ ap (λ (m : ℕ). between_by t ks (bit_xor y (permute initial 64 (pushed_all 0 (map internal (take m (drop i l))))))) d)
-      ∙ sym (chained_by t ks y (pushed_all 0 p8) f))
-      (q ∙ ap (λ (m : ℕ). (n + m) % 2 ^ 64) (sym c))
+      (ap (permute final 64) (rw eb at p) ∙ sym (chained_by t ks y (pushed_all 0 p8) f))
+      (ap (λ (m : ℕ). (n + m) % 2 ^ 64) (sym c))
       ∙ fed_fills (joined_by t ks) (halved y n) p8 (omega arith))
-      (sym (drop-drop 8 i l))
-      ∙ fed_cut (joined_by t ks) (halved y n) (drop i l) 8
+      ∙ fed_cut (joined_by t ks) (halved y n) l 8)
 
   -- what is left fills no block
-  pub fed_rest : (y n : ℕ) (l : List ℕ) (i : ℕ) {chain block m : ℕ} → n < 2 ^ 64 → n % 8 ≡ 0 → length l - i < 8 → chain ≡ permute final 64 y
-      → block ≡ pushed_all 0 (map internal (take (length l - i) (drop i l)))
-      → m ≡ (n + (length l - i)) % 2 ^ 64
-      → record { chain = chain; block = block; n = m } ≡ fed_bytes (joined_by t ks) (halved y n) (map internal (drop i l))
-  fed_rest y n l i {block = block} {m = m} f z h p q r =
-      let d : length (drop i l) ≡ length l - i = length-drop i l in
-      ap (λ (c : ℕ). record { chain = c; block = block; n = m }) p
-      ∙ fed_few (joined_by t ks) (halved y n) (drop i l) f (omega arith)
-      (q ∙ ap (λ (k : List ℕ). pushed_all 0 (map internal k)) (take_all (length l - i) (drop i l) (omega arith)))
-      (r ∙ ap (λ (k : ℕ). (n + k) % 2 ^ 64) (sym d))
+  pub fed_rest : (y n : ℕ) (l : List ℕ) {chain block m : ℕ} → n < 2 ^ 64 → n % 8 ≡ 0 → length l < 8 → chain ≡ permute final 64 y
+      → block ≡ pushed_all 0 (map internal l) → m ≡ (n + length l) % 2 ^ 64
+      → record { chain = chain; block = block; n = m } ≡ fed_bytes (joined_by t ks) (halved y n) (map internal l)
+  fed_rest y n l {block = block} {m = m} f z h p q r =
+      ap (λ (c : ℕ). record { chain = c; block = block; n = m }) p ∙ fed_few (joined_by t ks) (halved y n) l f (omega arith) q r

@@ -42,3 +42,5 @@ module _ (l : List ℕ) (n m : ℕ) (e : n ≡ m + 1) (h : n ≤ length l) where
 
   pub solid_end : (get_or l m 0 ≡ blank → ⊥) → take n l ≡ stripped (take n l)
   solid_end b = snoc ∙ sym (keeps_other (take m l) (get_or l m 0) b) ∙ ap stripped (sym snoc)
+
+pub ruleset solid = (one_less, solid_end, none_solid)

@@ -6,10 +6,4 @@ use Rattle.digest.proofs.checksum.Goals as goal
 pub returns : goal.returns
 returns c =
     c.close.ensures
-    ∙ checksum_made _ _
-    c.joined_table-table.ensures
-    c.schedule-keys.ensures
-    c.start.ensures
-    c.at_record.ensures
-    c.covered.ensures
-    c.run-r.ensures
+    ∙ checksum_made _ _ c.min.ensures c.joined_table-table.ensures c.schedule-keys.ensures c.start.ensures c.fed.ensures

@@ -1,46 +1,43 @@
--- The characters fill the block on its way, then whole ones, and what is left joins the next; the halves with the characters that are left
--- make the whole.
-use Rattle.std.proofs.Common.{◌+◌, ◌-◌, ◌≤◌, length, sym, refl, ◌∙◌, arith, length-take-le}
+-- The characters fill the block on its way, then whole ones, and what is left joins the next.
+use Rattle.std.proofs.Common.{◌≡◌, ◌+◌, ◌-◌, ◌%◌, ◌^◌, ◌≤◌, ◌<◌, length, refl, ◌∙◌, arith, rules}
 use Rattle.digest.proofs.Blocks.{fed_few, fed_head, fed_block, fed_rest}
 use Rattle.digest.proofs.fed.Goals as goal
 
-pub returns-then-bytes-i : goal.returns-then-bytes-i
-returns-then-bytes-i c =
-    fed_few _ c.args.s c.args.bytes.now (omega arith) c.if-bytes-i.true c.packed.ensures
-    c.wrapping_add_u64.ensures.value
+pub returns-in_default : goal.returns-in_default
+returns-in_default c =
+    fed_few _ c.args.s c.args.bytes.now (search rules) c.in_default.ensures.cases c.packed.ensures refl
 
-pub slice_bounds-packed-end : goal.slice_bounds-packed-end
-slice_bounds-packed-end c = sym (length-take-le _ c.args.bytes.now c.if-bytes-i.false)
+pub loop-block-init : goal.loop-block-init
+loop-block-init c =
+    let s = c.args.s in
+    let d = c.in-Some.ensures.cases in (
+      (s.n + (8 - s.n % 8)) % 2 ^ 64,
+      omega arith,
+      omega arith,
+      omega (arith, d.4),
+      c.between-y.type_inv,
+      fed_head _ _ s c.args.bytes.now _ _ _ d.0 refl d.1 d.2
+          (c.between-y.ensures ∙ rw (c.first.ensures, c.packed-2.ensures)),
+    )
 
-pub loop-i-init : goal.loop-i-init
-loop-i-init c = (
-  c.if-bytes-i.false,
-  omega (arith, c.between-y.type_inv),
-  omega (arith, c.wrapping_add_u64-n.type_inv),
-  omega (arith, c.wrapping_add_u64-n.ensures.value),
-  refl,
-)
-
-pub loop-i-preserved : goal.loop-i-preserved
-loop-i-preserved c =
-    let v = c.loop-i.invariant in
-    let k : c.loop-i.i + 8 ≤ length c.args.bytes.now = omega arith in (
-      k,
-      omega (arith, c.between-y-in-loop-i.type_inv),
-      omega (arith, c.wrapping_add_u64-n-in-loop-i.type_inv),
-      omega (arith, c.wrapping_add_u64-n-in-loop-i.ensures.value),
-      fed_block _ _ _ _ _ _ v.1 v.3 k
-          (c.between-y-in-loop-i.ensures ∙ rw (c.first-in-loop-i.ensures, c.packed-block.ensures))
-          c.wrapping_add_u64-n-in-loop-i.ensures.value
-          ∙ v.4,
+pub loop-block-preserved : goal.loop-block-preserved
+loop-block-preserved c =
+    let v = c.loop-block.invariant in
+    let d = c.in-Some-split_first_chunk.ensures.cases in (
+      (v.0 + 8) % 2 ^ 64,
+      omega arith,
+      omega (arith, v.2),
+      omega (arith, v.3, d.2),
+      c.between-y-in-Some-split_first_chunk.type_inv,
+      fed_block _ _ _ v.0 c.loop-block.rest.now _ _ v.4 v.2 (omega (arith, d.2)) d.0 d.1
+          (c.between-y-in-Some-split_first_chunk.ensures
+          ∙ rw (c.first-in-Some-split_first_chunk.ensures, c.packed-in-Some-split_first_chunk.ensures))
+          ∙ v.5,
     )
 
 pub returns : goal.returns
 returns c =
-    let v = c.loop-i.invariant in
-    fed_rest _ _ _ _ c.args.bytes.now c.loop-i.i v.2 v.3 c.loop-i-test.false
-    c.last.ensures c.packed-3.ensures c.wrapping_add_u64-2.ensures.value
-    ∙ v.4
-    ∙ fed_head _ _ _ _ _ c.if-bytes-i.false refl
-    (c.between-y.ensures ∙ rw (c.first.ensures, c.packed-2.ensures))
-    c.wrapping_add_u64-n.ensures.value
+    let v = c.loop-block.invariant in
+    fed_rest _ _ _ v.0 c.loop-block.rest.now v.1 v.2 c.in_default-split_first_chunk.ensures.cases
+    c.last.ensures c.packed-3.ensures v.3
+    ∙ v.5

@@ -1,11 +1,7 @@
-use Rattle.std.proofs.Common.{◌≡◌, ◌-◌, ◌≤◌, map, length, drop}
+use Rattle.std.proofs.Common.{◌≡◌, map, drop}
 use Rattle.text.specs.Characters.{internal}
 use Rattle.digest.specs.Running.{pushed_all}
 use Rattle.digest.proofs.packed.Given as goal
 
-abbrev pub invariant-loop-i : goal.invariant-loop-i
-invariant-loop-i l =
-    (l.i ≤ length l.bytes) × (pushed_all l.x (map internal (drop l.i l.bytes)) ≡ pushed_all l.block (map internal l.bytes))
-
-abbrev pub decreases-loop-i : goal.decreases-loop-i
-decreases-loop-i l = length l.bytes - l.i
+abbrev pub invariant-loop-b : goal.invariant-loop-b
+invariant-loop-b l = pushed_all l.x (map internal (drop l.b-index l.bytes)) ≡ pushed_all l.fn.block (map internal l.bytes)

@@ -4,6 +4,3 @@ use Rattle.digest.proofs.solid_length.Given as goal
 
 abbrev pub invariant-loop-n : goal.invariant-loop-n
 invariant-loop-n l = (l.n ≤ length l.bytes) × (stripped (take l.n l.bytes) ≡ stripped l.bytes)
-
-abbrev pub decreases-loop-n : goal.decreases-loop-n
-decreases-loop-n l = l.n
