@@ -3,8 +3,8 @@
 #![tactic(auto)]
 
 ghost use Rattle.std.specs.Prelude.{◌≡◌, ◌≤◌, ◌&&◌, length, nat_eq, not};
-ghost use Rattle.calendar.specs.Banking.{earliest_good};
 ghost use Rattle.std.specs.List.{list_any, zip};
+ghost use Rattle.calendar.specs.Banking.{earliest_good};
 ghost use Rattle.acceptance.specs.Stamps.{held_stamps, held_once, holds_stamp, stamp_old, live_stamps, once_used, with_live, with_stamp};
 ghost use Rattle.acceptance.specs.Grants.{granted_by};
 ghost use Rattle.acceptance.specs.Steps.{granted, under_previous, new_key, under_current};
@@ -86,7 +86,7 @@ pub fn live_count(c: Customer, today: Date, holidays: &[u32]) -> u32
     ensures { result ≡ length (live_stamps holidays.now today c) }
 {
     let day = Day::new(today, holidays);
-    held_stamps(&c).iter().filter(|s| !day.is_old(**s)).count() as u32
+    held_stamps(&c).iter().filter(|&&s| !day.is_old(s)).count() as u32
 }
 
 // Whether the key stands beside a stamp that is not too old.
@@ -99,7 +99,7 @@ fn is_beside(stamps: &[u64], once: &[u64], day: &Day<'_>, key: u64) -> bool
     stamps
         .iter()
         .zip(once)
-        .any(|(s, k)| *k == key && !day.is_old(*s))
+        .any(|(&s, &k)| k == key && !day.is_old(s))
 }
 
 // Whether a batch whose stamp is not too old had the same one-time key; 0 stands for none.
@@ -139,6 +139,7 @@ fn with_live(c: Customer, day: &Day<'_>) -> Customer
 }
 
 // The customer's record with a stamp marked used, and the one-time key of its batch or 0; those that are too old are left out.
+#[tactic(auto, using(crate::proofs::Lives::marked_more, crate::proofs::Lives::marked_full))]
 pub fn with_stamp(c: Customer, today: Date, holidays: &[u32], stamp: u64, once: u64) -> Customer
     ensures { result ≡ with_stamp holidays.now today c stamp once }
 {
