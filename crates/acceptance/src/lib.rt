@@ -2,10 +2,10 @@
 
 #![tactic(auto)]
 
-ghost use Rattle.std.specs.Prelude.{◌≡◌, ◌≤◌, ◌&&◌, length, nat_eq, not};
-ghost use Rattle.calendar.specs.Banking.{earliest_good};
+ghost use Rattle.std.specs.Prelude.{◌≡◌, ◌≤◌, ◌&&◌, length, take, nat_eq, not};
 ghost use Rattle.std.specs.List.{list_any, zip};
-ghost use Rattle.acceptance.specs.Stamps.{held_stamps, held_once, holds_stamp, stamp_old, live_stamps, once_used, with_live, with_stamp};
+ghost use Rattle.calendar.specs.Banking.{earliest_good};
+ghost use Rattle.acceptance.specs.Stamps.{holds_stamp, stamp_old, live_stamps, once_used, with_live, with_stamp};
 ghost use Rattle.acceptance.specs.Grants.{granted_by};
 ghost use Rattle.acceptance.specs.Steps.{granted, under_previous, new_key, under_current};
 
@@ -23,18 +23,11 @@ pub struct Granted {
     pub seed: u64,
 }
 
-// The stamps of accepted messages that the record holds.
-fn held_stamps(c: &Customer) -> &[u64]
-    ensures { result.now ≡ held_stamps c.now }
+// Those of 64 places that are held: of the stamps, or of the one-time keys beside them.
+fn held(places: &[u64; 64], count: u32) -> &[u64]
+    ensures { result.now ≡ take count places.now }
 {
-    &c.stamps[..c.stamps.len().min(c.count as usize)]
-}
-
-// Their one-time keys, 0 for an ESI.
-fn held_once(c: &Customer) -> &[u64]
-    ensures { result.now ≡ held_once c.now }
-{
-    &c.once[..c.once.len().min(c.count as usize)]
+    &places[..places.len().min(count as usize)]
 }
 
 // Whether the customer holds that stamp.
@@ -42,7 +35,7 @@ fn held_once(c: &Customer) -> &[u64]
 pub fn holds_stamp(c: Customer, stamp: u64) -> bool
     ensures { result ≡ holds_stamp c stamp }
 {
-    held_stamps(&c).contains(&stamp)
+    held(&c.stamps, c.count).contains(&stamp)
 }
 
 // A day with its bank's holidays, and the earliest date that isn't too old then.
@@ -86,7 +79,10 @@ pub fn live_count(c: Customer, today: Date, holidays: &[u32]) -> u32
     ensures { result ≡ length (live_stamps holidays.now today c) }
 {
     let day = Day::new(today, holidays);
-    held_stamps(&c).iter().filter(|s| !day.is_old(**s)).count() as u32
+    held(&c.stamps, c.count)
+        .iter()
+        .filter(|&&s| !day.is_old(s))
+        .count() as u32
 }
 
 // Whether the key stands beside a stamp that is not too old.
@@ -99,7 +95,7 @@ fn is_beside(stamps: &[u64], once: &[u64], day: &Day<'_>, key: u64) -> bool
     stamps
         .iter()
         .zip(once)
-        .any(|(s, k)| *k == key && !day.is_old(*s))
+        .any(|(&s, &k)| k == key && !day.is_old(s))
 }
 
 // Whether a batch whose stamp is not too old had the same one-time key; 0 stands for none.
@@ -109,8 +105,8 @@ pub fn is_once_used(c: Customer, today: Date, holidays: &[u32], key: u64) -> boo
 {
     key != 0
         && is_beside(
-            held_stamps(&c),
-            held_once(&c),
+            held(&c.stamps, c.count),
+            held(&c.once, c.count),
             &Day::new(today, holidays),
             key,
         )
@@ -127,7 +123,7 @@ fn with_live(c: Customer, day: &Day<'_>) -> Customer
         once: [0; 64],
         ..c
     };
-    for (s, k) in held_stamps(&c).iter().zip(held_once(&c)) {
+    for (s, k) in held(&c.stamps, c.count).iter().zip(held(&c.once, c.count)) {
         if !day.is_old(*s) {
             let n = live.count as usize;
             live.stamps[n] = *s;
@@ -139,6 +135,7 @@ fn with_live(c: Customer, day: &Day<'_>) -> Customer
 }
 
 // The customer's record with a stamp marked used, and the one-time key of its batch or 0; those that are too old are left out.
+#[tactic(auto, using(crate::proofs::Lives::marked_more, crate::proofs::Lives::marked_full))]
 pub fn with_stamp(c: Customer, today: Date, holidays: &[u32], stamp: u64, once: u64) -> Customer
     ensures { result ≡ with_stamp holidays.now today c stamp once }
 {
