@@ -1,13 +1,15 @@
 -- A stamp beside the start of a real day: of that day just when it lies less than a day's digits after it, and then its time decides.
 -- Assumes nothing.
-use mathlib.Core.Path.{◌≡◌, sym, ap, ◌∙◌}
+use mathlib.Core.Path.{◌≡◌, refl, sym, ap, ◌∙◌}
+use Rattle.std.specs.Prelude.{◌&&◌}
 use mathlib.Core.Bool.{true, false}
 use Prim.Native.Nat.{ℕ, ◌-◌, ◌*◌, ◌/◌, ◌%◌, ◌≤◌, ◌<◌}
 use native.Mathlib.Omega.{arith}
-use borrow.Author.Tests.{eqb-true, eq-eqb, ne_eqb, ltb-true, lt-ltb, le-ltb}
+use borrow.Author.Tests.{eqb-true, eq-eqb, ne_eqb, ltb-true, lt-ltb}
 use lib.Dec.{eqb, ltb}
 use Rattle.ground.proofs.Choices.{left, right, join, decides}
-use Rattle.ground.proofs.Bools.{decided, stop, later, past}
+use Rattle.ground.proofs.Bools.{decided}
+use Rattle.ground.proofs.Std.{both_is}
 use Rattle.calendar.specs.Dates.{real_date, real_time}
 use Rattle.customer.specs.Customer.{real_stamp}
 use Rattle.customer_bytes.specs.Tests.{starts_day}
@@ -17,26 +19,18 @@ six : (d : ℕ) → real_date d ≡ true → d < 1000000
 unfolding real_date
 six d e = ltb-true d 1000000 (left _ _ e)
 
+same_tests : (a m b n : ℕ) → (a < m → b < n) → (b < n → a < m) → ltb a m ≡ ltb b n
+same_tests a m b n f g =
+    decided (ltb a m) (ltb b n) (λ e. lt-ltb b n (f (ltb-true a m e))) (λ e. lt-ltb a m (g (ltb-true b n e)))
+
 -- hours, minutes and seconds of the digits hhmmssnnn
-module _ (r : ℕ) where
-  pub late : 240000000 ≤ r → false ≡ real_time (r / 1000)
-  unfolding real_time
-  late h = stop _ _ (le-ltb (r / 1000) 240000 (omega arith))
-
-  pub minutes_past : 60 ≤ r / 100000 % 100 → false ≡ real_time (r / 1000)
-  unfolding real_time
-  minutes_past h = later _ _ (stop _ _ (le-ltb (r / 1000 / 100 % 100) 60 (omega arith)))
-
-  seconds : ltb (r % 100000) 60000 ≡ ltb (r / 1000 % 100) 60
-  seconds =
-      decided (ltb (r % 100000) 60000) (ltb (r / 1000 % 100) 60)
-      (λ e. lt-ltb (r / 1000 % 100) 60 (omega (arith, ltb-true (r % 100000) 60000 e)))
-      (λ e. lt-ltb (r % 100000) 60000 (omega (arith, ltb-true (r / 1000 % 100) 60 e)))
-
-  pub seconds_decide : r < 240000000 → r / 100000 % 100 < 60 → ltb (r % 100000) 60000 ≡ real_time (r / 1000)
-  unfolding real_time
-  seconds_decide h k =
-      past _ _ _ (lt-ltb (r / 1000) 240000 (omega arith)) (past _ _ _ (lt-ltb (r / 1000 / 100 % 100) 60 (omega arith)) seconds)
+pub time_is : (r : ℕ) → real_time (r / 1000) ≡ (ltb r 240000000 && (ltb (r / 100000 % 100) 60 && ltb (r % 100000) 60000))
+unfolding real_time
+time_is r =
+    let hours : ltb (r / 1000) 240000 ≡ ltb r 240000000 = same_tests _ _ _ _ (omega arith) (omega arith) in
+    let minutes : r / 1000 / 100 % 100 ≡ r / 100000 % 100 = omega arith in
+    let seconds : ltb (r / 1000 % 100) 60 ≡ ltb (r % 100000) 60000 = same_tests _ _ _ _ (omega arith) (omega arith) in
+    rw (both_is, both_is, hours, minutes, seconds) refl
 
 module _ (s day : ℕ) (h : starts_day day ≡ true) where
   whole : day % 1000000000 ≡ 0

@@ -1,9 +1,12 @@
 -- What every layout's laws say of a customer's and the settings': widths, what is written is read back, and the test is right.
 -- Assumes nothing.
-use Rattle.std.specs.Prelude.{None, Option, Some}
+use Rattle.std.specs.Prelude.{◌&&◌, None, Option, Some}
+use Rattle.std.proofs.Math.Bool.{and-true, and_assoc}
+use Rattle.std.proofs.Math.Nat.{add_assoc}
+use mathlib.Core.Logic.{inl, inr}
 use mathlib.Core.Path.{◌≡◌, refl, sym, ap, ◌∙◌}
 use mathlib.Core.Bool.{Bool, true, false}
-use mathlib.Core.List.{List, [], ◌∷◌}
+use mathlib.Core.List.{List}
 use mathlib.Core.Option.{none, some}
 use Prim.Native.Nat.{ℕ, ◌+◌, ◌≤◌, ◌<◌}
 use native.Mathlib.Nat.{add-zero}
@@ -13,22 +16,28 @@ use lib.Dec.{ltb, leb}
 use lib.ListN.{length, replicate}
 use Rattle.ground.specs.Choice.{both}
 use Rattle.ground.specs.Lists.{part, same}
-use Rattle.ground.proofs.Choices.{picks, skips, between_below}
-use Rattle.ground.proofs.Bools.{both_true, stop, later}
+use Rattle.ground.proofs.Choices.{fails_right, picks, skips, between_below}
+use Rattle.ground.proofs.Numbers.{below}
+use Rattle.ground.proofs.Std.{both_is, between_is}
+use Rattle.ground.proofs.Bools.{stop, later}
 use Rattle.splices.specs.Bytes.{num}
 use Rattle.splices.proofs.Splice.{AllBytes}
-use Rattle.codec.specs.Layout.{perhaps, Value, scalar, width, enc, dec, ok, Sized}
-use Rattle.codec.specs.Rows.{widths, cells}
+use Rattle.codec.specs.Layout.{numbers, perhaps, Value, scalar, width, enc, dec, ok, Sized}
 use Rattle.codec.proofs.Laws.{wide, exact, sized, dec-part}
-use Rattle.customer.specs.Customer.{sound_customer}
+use Rattle.customer.specs.Customer.{sound_keys, sound_stamps, sound_customer}
+use Rattle.customer.specs.Settings.{sound_who}
 use Rattle.customer.specs.declared.Customer.{Customer}
 use Rattle.customer.specs.declared.Settings.{Settings}
-use Rattle.customer_bytes.specs.Layout.{record_width, settings_width, previous_held, terms_shape, customer_shape, settings_shape}
-use Rattle.customer_bytes.specs.Layout.{previous_from, previous_to, customer_from, terms_to, customer_to, settings_from, settings_to, room_of}
+use Rattle.customer_bytes.specs.Layout.{record_width, settings_width, previous_held, pair_shape, terms_shape, customer_shape, settings_shape}
+use Rattle.customer_bytes.specs.Layout.{previous_from, previous_to, pair_from, customer_from, terms_to, customer_to, settings_from, settings_to}
 use Rattle.customer_bytes.specs.Layout.{customer_bytes, customer_of, settings_bytes, settings_of, raw_at, customer_at, settings_at, exact_at}
 use Rattle.customer.specs.declared.Changeover.{Changeover}
 
 -- ---- widths
+
+pub pair_scalar : scalar pair_shape ≡ true
+unfolding both
+pair_scalar = refl
 
 pub terms_scalar : scalar terms_shape ≡ true
 unfolding both
@@ -48,12 +57,6 @@ unfolding settings_bytes width
 settings_width_lem s h = wide settings_shape (settings_to s) h
 
 -- ---- the fields are the customer's
-
-pub room_cells : (p : Option Changeover) → (room_of p).held ∷ (room_of p).generation ∷ (room_of p).key ∷ (room_of p).first ∷ (room_of p).last ∷ []
-    ≡ cells (perhaps previous_held) (previous_to p)
-unfolding cells widths
-room_cells None = refl
-room_cells (Some p) = refl
 
 previous_there : (p : Option Changeover) → previous_from (previous_to p) ≡ p
 previous_there None = refl
@@ -86,20 +89,24 @@ customer_back (who, ((types, (agreed, (leave, (days, ((g, (k, p)), ((g', (k', p'
 
 -- ---- the test of a customer's bytes looks at the two flags and the two previous keys
 
-abbrev pub tests : ℕ → List ℕ → Bool
-tests at l =
-    both (ltb (num (part (at + 25 + 2) 1 l)) 2)
-    (both (ltb (num (part (at + 25 + 2 + 1) 1 l)) 2)
-    (both (ok (perhaps previous_held) (at + 25 + 2 + 1 + 1 + 1 + 1 + 8) l)
-    (ok (perhaps previous_held) (at + 25 + 2 + 1 + 1 + 1 + 27 + 1 + 8) l)))
+pub customer_test : (at : ℕ) (l : List ℕ) → ok customer_shape at l
+    ≡ (ltb (num (part (at + 27) 1 l)) 2
+    && (ltb (num (part (at + 28) 1 l)) 2 && (ok (perhaps previous_held) (at + 39) l && ok (perhaps previous_held) (at + 66) l)))
+unfolding ok width
+customer_test at l = simp (both_is, and-true, and_assoc, add_assoc)
 
-pub customer_test : (at : ℕ) (l : List ℕ) → tests at l ≡ ok customer_shape at l
-unfolding ok both width
-customer_test at l =
-    sym (both_true _
-    ∙ ap (λ (x : Bool). both (ltb (num (part (at + 25 + 2) 1 l)) 2) (both (ltb (num (part (at + 25 + 2 + 1) 1 l)) 2)
-    (both (ok (perhaps previous_held) (at + 25 + 2 + 1 + 1 + 1 + 1 + 8) l) x)))
-    (both_true (ok (perhaps previous_held) (at + 25 + 2 + 1 + 1 + 1 + 27 + 1 + 8) l)))
+-- and each of its fields is tested at its place
+pub sound_test : (at : ℕ) (l : List ℕ) → sound_customer (customer_from (dec customer_shape at l))
+    ≡ (sound_who (part at 25 l)
+    && (ltb (num (part (at + 25) 2 l)) 65536
+    && (leb 1 (num (part (at + 29) 1 l))
+    && (leb (num (part (at + 29) 1 l)) 60
+    && (sound_keys (pair_from (dec pair_shape (at + 30) l))
+    && (sound_keys (pair_from (dec pair_shape (at + 57) l))
+    && (leb (num (part (at + 84) 1 l)) 64
+    && sound_stamps (num (part (at + 84) 1 l)) (dec (numbers 64 8) (at + 85) l) (dec (numbers 64 8) (at + 85 + 512) l))))))))
+unfolding sound_customer dec width
+sound_test at l = simp (both_is, between_is, and_assoc, add_assoc)
 
 -- ---- where there is room, and where not
 
@@ -150,15 +157,22 @@ module _ (at : ℕ) (l : List ℕ) where
       ∙ sym (λ i. same (customer_bytes (customer_at_lem at l h i)) (raw_fits record_width at l h i))
 
   -- and the customer that they say is sound
-  pub sound_at : AllBytes l → at + record_width ≤ length l
-      → both (ok customer_shape at l) (sound_customer (customer_from (dec customer_shape at l)))
-      ≡ both (exact_at at l) (sound_customer (customer_at at l))
-  sound_at b h = λ i. both (exact_at_lem b h i) (sound_customer (sym (customer_at_lem at l h) i))
+  sound_there : AllBytes l → at + record_width ≤ length l
+      → both (exact_at at l) (sound_customer (customer_at at l))
+      ≡ both (ok customer_shape at l) (sound_customer (customer_from (dec customer_shape at l)))
+  sound_there b h = λ i. both (sym (exact_at_lem b h) i) (sound_customer (customer_at_lem at l h i))
 
 -- zero bytes say no customer: a changeover has at least a day
-zeros_unsound : false ≡ sound_customer (customer_of (replicate record_width 0))
+zeros_unsound : sound_customer (customer_of (replicate record_width 0)) ≡ false
 unfolding sound_customer customer_of dec width part num
-zeros_unsound = later _ _ (later _ _ (stop _ _ (between_below 1 60 0 (omega arith))))
+zeros_unsound = sym (later _ _ (later _ _ (stop _ _ (between_below 1 60 0 (omega arith)))))
 
-pub sound_past : (at : ℕ) (l : List ℕ) → length l < at + record_width → false ≡ both (exact_at at l) (sound_customer (customer_at at l))
-sound_past at l h = later _ _ (zeros_unsound ∙ ap sound_customer (sym (customer_past at l h)))
+pub sound_at : (at : ℕ) (l : List ℕ) → AllBytes l → both (exact_at at l) (sound_customer (customer_at at l))
+    ≡ (leb (at + 1109) (length l) && (ok customer_shape at l && sound_customer (customer_from (dec customer_shape at l))))
+sound_at at l b = elim (below (length l) (at + 1109)) [
+  | inl h ↦ fails_right _ _ (ap sound_customer (customer_past at l h) ∙ zeros_unsound)
+      ∙ sym (ap (λ (t : Bool). t && (ok customer_shape at l && sound_customer (customer_from (dec customer_shape at l)))) (lt-leb (at + 1109) (length l) h))
+  | inr h ↦ sound_there at l b h
+      ∙ both_is _ _
+      ∙ sym (ap (λ (t : Bool). t && (ok customer_shape at l && sound_customer (customer_from (dec customer_shape at l)))) (le-leb (at + 1109) (length l) h))
+]

@@ -1,6 +1,8 @@
 -- The stamps of a customer's record are sound just when four runs of its numbers pass their tests: the first n stamps and keys, and the
 -- room after each.
 -- Assumes nothing.
+use Rattle.std.specs.Prelude.{◌&&◌}
+use Rattle.std.specs.List.{list_all, range_with_len}
 use mathlib.Core.Path.{◌≡◌, refl, sym, ap, ap₂, ◌∙◌}
 use mathlib.Core.Bool.{Bool, true, false}
 use mathlib.Core.List.{List, ◌∷◌, map}
@@ -12,6 +14,7 @@ use Rattle.ground.specs.Choice.{both}
 use Rattle.ground.specs.Lists.{part}
 use Rattle.ground.proofs.Choices.{fails_left, decides}
 use Rattle.ground.proofs.Numbers.{one_and}
+use Rattle.ground.proofs.Std.{both_is}
 use Rattle.ground.proofs.Bools.{both_assoc}
 use Rattle.ground.proofs.Parts.{drop-take}
 use Rattle.splices.specs.Bytes.{num, chunks, nums}
@@ -21,27 +24,43 @@ use Rattle.customer_bytes.specs.Tests.{word_at, real_at, once_at, zero_at}
 
 -- ---- the loops over runs
 
--- the numbers from p on decide
-abbrev pub Decide : (ℕ → Bool) → (n at left p : ℕ) → Type 0
-Decide f n at left p = (p + 8 * left ≡ at + 8 * n) × (every f 8 n at ≡ every f 8 left p)
-
-every-suc : (f : ℕ → Bool) (n m p : ℕ) → n ≡ suc m → every f 8 n p ≡ both (f p) (every f 8 m (p + 8))
+every-suc : (f : ℕ → Bool) (n m p q : ℕ) → n ≡ suc m → q ≡ p + 8 → every f 8 n p ≡ both (f p) (every f 8 m q)
 unfolding every
-every-suc f n m p e = rw e
+every-suc f n m p q e g = rw (e, g)
 
-module _ (f : ℕ → Bool) (n at left p : ℕ) (v : Decide f n at left p) where
-  turn : 0 < left → every f 8 n at ≡ both (f p) (every f 8 (left - 1) (p + 8))
-  turn h = v.1 ∙ every-suc f left (left - 1) p (omega arith)
+-- `all` over the numbers of the places
+all_every : (f : ℕ → Bool) (at a n : ℕ) → list_all (λ i. f (at + 8 * i)) (range_with_len a n) ≡ every f 8 n (at + 8 * a)
+unfolding every
+all_every f at a zero = refl
+all_every f at a (suc n) =
+    let e : at + 8 * (a + 1) ≡ at + 8 * a + 8 = omega arith in
+    ap (λ (b : Bool). f (at + 8 * a) && b) (all_every f at (a + 1) n)
+    ∙ sym (every-suc f (suc n) n (at + 8 * a) (at + 8 * (a + 1)) refl e ∙ both_is (f (at + 8 * a)) _)
 
-  pub run_stop : 0 < left → f p ≡ false → false ≡ every f 8 n at
-  run_stop h t = sym (turn h ∙ fails_left (f p) _ t)
+pub all_of_run : (f : ℕ → Bool) (at n : ℕ) → list_all (λ i. f (at + 8 * i)) (range_with_len 0 n) ≡ every f 8 n at
+all_of_run f at n = let e : at + 8 * 0 ≡ at = omega arith in all_every f at 0 n ∙ ap (every f 8 n) e
 
-  pub run_more : 0 < left → f p ≡ true → Decide f n at (left - 1) (p + 8)
-  run_more h t = (omega arith, turn h ∙ decides (f p) _ t)
+-- the numbers from place i on decide
+abbrev pub Decide : (ℕ → Bool) → (n at i : ℕ) → Type 0
+Decide f n at i = every f 8 n at ≡ every f 8 (n - i) (at + 8 * i)
 
-  pub run_end : left ≡ 0 → true ≡ every f 8 n at
+module _ (f : ℕ → Bool) (n at : ℕ) where
+  pub run_begin : Decide f n at 0
+  run_begin = let e : at + 8 * 0 ≡ at = omega arith in let g : n - 0 ≡ n = omega arith in rw (e, g) refl
+
+  pub run_end : (i : ℕ) → n ≤ i → Decide f n at i → true ≡ every f 8 n at
   unfolding every
-  run_end h = sym (v.1 ∙ ap (λ (k : ℕ). every f 8 k p) h)
+  run_end i h v = let e : n - i ≡ 0 = omega arith in sym (v ∙ ap (λ (k : ℕ). every f 8 k (at + 8 * i)) e)
+
+  module _ (i : ℕ) (h : i < n) (v : Decide f n at i) where
+    turn : every f 8 n at ≡ both (f (at + 8 * i)) (every f 8 (n - (i + 1)) (at + 8 * (i + 1)))
+    turn = v ∙ every-suc f (n - i) (n - (i + 1)) (at + 8 * i) (at + 8 * (i + 1)) (omega arith) (omega arith)
+
+    pub run_stop : f (at + 8 * i) ≡ false → false ≡ every f 8 n at
+    run_stop t = sym (turn ∙ fails_left (f (at + 8 * i)) _ t)
+
+    pub run_more : f (at + 8 * i) ≡ true → Decide f n at (i + 1)
+    run_more t = turn ∙ decides (f (at + 8 * i)) _ t
 
 -- ---- the numbers by their places
 
@@ -87,10 +106,11 @@ module _ (l : List ℕ) where
       ∙ ap (λ (x : Bool). both x z) (crossed a b _ _)
 
   pub stamps_tests : (n o q : ℕ) → n ≤ 64 → sound_stamps n (dec (numbers 64 8) o l) (dec (numbers 64 8) q l)
-      ≡ both (every (real_at l) 8 n o)
-      (both (every (once_at l) 8 n q) (both (every (zero_at l) 8 (64 - n) (o + 8 * n)) (every (zero_at l) 8 (64 - n) (q + 8 * n))))
+      ≡ (every (real_at l) 8 n o
+      && (every (once_at l) 8 n q && (every (zero_at l) 8 (64 - n) (o + 8 * n) && every (zero_at l) 8 (64 - n) (q + 8 * n))))
   stamps_tests n o q h =
       ap₂ (sound_stamps n) (numbers-run 64 o l) (numbers-run 64 q l)
       ∙ used_tests n 64 (64 - n) o q (o + 8 * n) (q + 8 * n) (omega arith) refl refl
       ∙ both_assoc _ _ _
       ∙ ap (λ (x : Bool). both (every (real_at l) 8 n o) (both (every (once_at l) 8 n q) x)) (room_tests (64 - n) _ _)
+      ∙ simp both_is

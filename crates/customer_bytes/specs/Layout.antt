@@ -10,12 +10,14 @@ use Rattle.codec.specs.Flag.{flag}
 use Rattle.customer.specs.declared.KeyPair.{KeyPair}
 use Rattle.customer.specs.declared.Customer.{Customer}
 use Rattle.customer.specs.declared.Settings.{Settings}
-use Rattle.customer_bytes.specs.declared.Room.{Room}
 use Rattle.customer.specs.declared.Changeover.{Changeover}
 
--- a customer's record takes 1,109 bytes, the keys of one kind 27 of them, a previous key 18; the settings take 58
+-- a customer's record takes 1,109 bytes, the terms 60 of them, the keys of one kind 27, a previous key 18; the settings take 58
 abbrev pub record_width : ℕ
 record_width = 1109
+
+abbrev pub terms_width : ℕ
+terms_width = 60
 
 abbrev pub pair_width : ℕ
 pair_width = 27
@@ -114,12 +116,6 @@ settings_from (bank, (software, (floor, (key, seed)))) =
 
 abbrev pub settings_to : Settings → Value settings_shape
 settings_to s = (s.bank, (s.software, (s.floor, (s.maker.key, s.maker.seed))))
-
--- a previous key as the numbers that it is written as
-abbrev pub room_of : Option Changeover → Room
-room_of None = record { held = 0; generation = 0; key = 0; first = 0; last = 0 }
-room_of (Some p) =
-    record { held = 1; generation = p.generation; key = p.key; first = p.first.yymmdd; last = p.last.yymmdd }
 
 -- ---- as bytes: what each is written as, and what bytes say
 

@@ -1,24 +1,16 @@
--- The keys that are left decide.
-use mathlib.Core.Path.{refl, sym, ap, ◌∙◌}
-use native.Mathlib.Omega.{arith}
-use Rattle.ground.proofs.Bools.{passed, refused}
-use Rattle.customer.specs.Customer.{sound_once}
+-- Each key of the run is looked at.
+use mathlib.Core.Path.{refl, ◌∙◌}
+use Prim.Native.Nat.{◌+◌, ◌*◌}
+use Rattle.std.proofs.Common.{arith, rules, tests}
+use Rattle.std.proofs.lemmas.Iterator.{YieldsList-from_range}
+use Rattle.std.proofs.lemmas.Iterator.Search.{all_from_yields_List}
 use Rattle.customer_bytes.specs.Tests.{once_at}
-use Rattle.customer_bytes.proofs.Stamps.{run_stop, run_more, run_end}
+use Rattle.customer_bytes.proofs.Stamps.{all_of_run}
 use Rattle.customer_bytes.proofs.are_sound_once.Goals as goal
 
-pub loop-left-init : goal.loop-left-init
-loop-left-init c = (refl, refl)
-
-pub returns-then-not-is_sound_once : goal.returns-then-not-is_sound_once
-returns-then-not-is_sound_once c =
-    run_stop (once_at c.args.t.now) _ _ _ _ c.loop-left.invariant c.loop-left-test.true
-    (ap sound_once (sym c.read8.ensures) ∙ refused c.is_sound_once.ensures c.if-not-is_sound_once.true-raw)
-
-pub loop-left-preserved : goal.loop-left-preserved
-loop-left-preserved c =
-    run_more (once_at c.args.t.now) _ _ _ _ c.loop-left.invariant c.loop-left-test.true
-    (ap sound_once (sym c.read8.ensures) ∙ passed c.is_sound_once.ensures c.if-not-is_sound_once.false-raw)
-
 pub returns : goal.returns
-returns c = run_end (once_at c.args.t.now) _ _ _ _ c.loop-left.invariant (omega arith)
+returns c =
+    let a = c.args in
+    all_from_yields_List (λ i. once_at a.t.now (a.at + 8 * i)) _ _ c.all.result c.all.ensures.ran
+    (YieldsList-from_range 0 a.n a.n refl (omega arith)) (λ x b q k. search (rules, tests))
+    ∙ all_of_run (once_at a.t.now) a.at a.n

@@ -1,23 +1,16 @@
--- The numbers that are left decide.
-use mathlib.Core.Path.{refl, sym, ◌∙◌}
-use native.Mathlib.Omega.{arith}
-use borrow.Author.Tests.{eq-eqb, ne_eqb}
+-- Each number of the run is looked at.
+use mathlib.Core.Path.{refl, ◌∙◌}
+use Prim.Native.Nat.{◌+◌, ◌*◌}
+use Rattle.std.proofs.Common.{arith, rules, tests}
+use Rattle.std.proofs.lemmas.Iterator.{YieldsList-from_range}
+use Rattle.std.proofs.lemmas.Iterator.Search.{all_from_yields_List}
 use Rattle.customer_bytes.specs.Tests.{zero_at}
-use Rattle.customer_bytes.proofs.Stamps.{run_stop, run_more, run_end}
+use Rattle.customer_bytes.proofs.Stamps.{all_of_run}
 use Rattle.customer_bytes.proofs.are_zero.Goals as goal
 
-pub loop-left-init : goal.loop-left-init
-loop-left-init c = (refl, refl)
-
-pub returns-then-read8-ne0 : goal.returns-then-read8-ne0
-returns-then-read8-ne0 c =
-    run_stop (zero_at c.args.t.now) _ _ _ _ c.loop-left.invariant c.loop-left-test.true
-    (ne_eqb _ _ (λ e. c.if-read8-ne0.true (c.read8.ensures ∙ e)))
-
-pub loop-left-preserved : goal.loop-left-preserved
-loop-left-preserved c =
-    run_more (zero_at c.args.t.now) _ _ _ _ c.loop-left.invariant c.loop-left-test.true
-    (eq-eqb _ _ (sym c.read8.ensures ∙ c.if-read8-ne0.false))
-
 pub returns : goal.returns
-returns c = run_end (zero_at c.args.t.now) _ _ _ _ c.loop-left.invariant (omega arith)
+returns c =
+    let a = c.args in
+    all_from_yields_List (λ i. zero_at a.t.now (a.at + 8 * i)) _ _ c.all.result c.all.ensures.ran
+    (YieldsList-from_range 0 a.n a.n refl (omega arith)) (λ x b q k. search (rules, tests))
+    ∙ all_of_run (zero_at a.t.now) a.at a.n

@@ -1,6 +1,7 @@
 -- What is read is the fields, one after the other; where the first byte is not 1 there is none.
 use mathlib.Core.Path.{sym, ap, ◌∙◌}
 use mathlib.Core.Option.{some}
+use Rattle.std.proofs.Math.Nat.{add_assoc}
 use Rattle.codec.specs.Layout.{dec, width}
 use Rattle.codec.proofs.Laws.{dec-none, dec_some}
 use Rattle.customer_bytes.specs.Layout.{previous_held, previous_from}
@@ -16,8 +17,8 @@ unfolding dec width
 returns c =
     let a = c.args in
     let e = sym c.read1.ensures ∙ c.if-read1-ne1.false in
-    (λ i. previous_from (some (
-      c.read1-generation.ensures i,
-      (c.read8-key.ensures i, (c.read4.ensures i, c.read4-2.ensures i)),
-    )))
-    ∙ sym (ap previous_from (dec_some previous_held a.at a.t.now e))
+    rw (ap previous_from (dec_some previous_held a.at a.t.now e))
+    (simp add_assoc (λ i. previous_from (some (
+      c.read1-2.ensures i,
+      (c.read8.ensures i, (c.read4.ensures i, c.read4-2.ensures i)),
+    ))))

@@ -1,10 +1,11 @@
 -- The fields are written one after the other.
 use mathlib.Core.Path.{◌≡◌}
+use Rattle.std.proofs.Math.Nat.{add_assoc}
 use lib.ListN.{length}
+use borrow.Author.Rules.{rules}
 use Rattle.codec.specs.Layout.{Sized, laid, enc, width}
 use Rattle.codec.proofs.Laws.{laid_is}
 use Rattle.customer_bytes.specs.Layout.{settings_shape, settings_to, settings_bytes}
-use borrow.Author.Rules.{rules}
 use Rattle.customer_bytes.proofs.store_bank.Goals as goal
 
 pub returns : goal.returns
@@ -21,4 +22,4 @@ returns c =
       c.write_bytes-2.ensures,
       c.write_bytes.ensures,
     )
-    (laid_is settings_shape (settings_to s) z c.args.at c.args.t.now c.requires)
+    (simp add_assoc at (laid_is settings_shape (settings_to s) z c.args.at c.args.t.now c.requires))

@@ -1,9 +1,0 @@
-use Rattle.customer_bytes.specs.Tests.{once_at}
-use Rattle.customer_bytes.proofs.Stamps.{Decide}
-use Rattle.customer_bytes.proofs.are_sound_once.Given as goal
-
-abbrev pub invariant-loop-left : goal.invariant-loop-left
-invariant-loop-left l = Decide (once_at l.t) l.n l.at l.left l.p
-
-abbrev pub decreases-loop-left : goal.decreases-loop-left
-decreases-loop-left l = l.left
