@@ -24,11 +24,11 @@ same_tests a m b n f g =
     decided (ltb a m) (ltb b n) (λ e. lt-ltb b n (f (ltb-true a m e))) (λ e. lt-ltb a m (g (ltb-true b n e)))
 
 -- hours, minutes and seconds of the digits hhmmssnnn
-pub time_is : (r : ℕ) → real_time (r / 1000) ≡ (ltb r 240000000 && (ltb (r / 100000 % 100) 60 && ltb (r % 100000) 60000))
+pub time_is : (r : ℕ) → real_time (r / 1000) ≡ (ltb r 240000000 && (ltb (r % 10000000) 6000000 && ltb (r % 100000) 60000))
 unfolding real_time
 time_is r =
     let hours : ltb (r / 1000) 240000 ≡ ltb r 240000000 = same_tests _ _ _ _ (omega arith) (omega arith) in
-    let minutes : r / 1000 / 100 % 100 ≡ r / 100000 % 100 = omega arith in
+    let minutes : ltb (r / 1000 / 100 % 100) 60 ≡ ltb (r % 10000000) 6000000 = same_tests _ _ _ _ (omega arith) (omega arith) in
     let seconds : ltb (r / 1000 % 100) 60 ≡ ltb (r % 100000) 60000 = same_tests _ _ _ _ (omega arith) (omega arith) in
     rw (both_is, both_is, hours, minutes, seconds) refl
 

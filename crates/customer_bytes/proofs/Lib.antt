@@ -2,3 +2,4 @@
 pub mod Laws
 pub mod Days
 pub mod Stamps
+pub mod Zeros

@@ -4,12 +4,13 @@
 #![tactic(auto)]
 
 ghost use Rattle.std.specs.Prelude.{◌≡◌, true, ◌+◌, ◌*◌, ◌/◌, ◌≤◌, eqb, length};
+ghost use Rattle.std.specs.List.{list_all};
 ghost use Rattle.splices.specs.Bytes.{splice, put};
 ghost use Rattle.ground.specs.Choice.{both};
 ghost use Rattle.codec.specs.Layout.{perhaps, numbers, every, enc, dec, ok};
 ghost use Rattle.calendar.specs.Dates.{real_time};
 ghost use Rattle.customer.specs.Customer.{real_stamp, sound_stamps, sound_customer};
-ghost use Rattle.customer_bytes.specs.Tests.{starts_day, real_at, once_at, zero_at};
+ghost use Rattle.customer_bytes.specs.Tests.{starts_day, real_at, once_at};
 ghost use Rattle.customer_bytes.specs.Layout.{record_width, pair_width, previous_width, settings_width, previous_held, pair_shape};
 ghost use Rattle.customer_bytes.specs.Layout.{terms_width, terms_shape, customer_shape, settings_shape, previous_from, previous_to, pair_from, pair_to, customer_from};
 ghost use Rattle.customer_bytes.specs.Layout.{terms_to, settings_from, customer_bytes};
@@ -219,12 +220,11 @@ fn is_of_day(s: u64, day: u64) -> bool
     day <= s && s - day < 1000000000
 }
 
-// Whether the digits hhmmssnnn after a day's start are a real time. Minutes are tested with their hours still before them, seconds with
-// what comes after them, so that one division serves both.
+// Whether the digits hhmmssnnn after a day's start are a real time. Minutes are tested with what comes after them, and so are seconds.
 fn is_real_rest(rest: u64) -> bool
     ensures { result ≡ real_time (rest / 1000) }
 {
-    rest < 240000000 && rest / 100000 % 100 < 60 && rest % 100000 < 60000
+    rest < 240000000 && rest % 10000000 < 6000000 && rest % 100000 < 60000
 }
 
 // Whether a stamp is real, beside a real day's start: a stamp of that day needs its time alone.
@@ -275,12 +275,11 @@ fn are_sound_once(t: &[u8], at: usize, n: usize) -> bool
     (0..n).all(|i| customer::is_sound_once(codec::read8(t, at + 8 * i)))
 }
 
-// Whether the room of n numbers from `at` on is zero.
-fn are_zero(t: &[u8], at: usize, n: usize) -> bool
-    requires { at + 8 * n ≤ length t.now }
-    ensures { result ≡ every (zero_at t.now) 8 n at }
+// Whether bytes are zero. There is no branch at each, so that many go at once.
+fn are_zero(bytes: &[u8]) -> bool
+    ensures { result ≡ list_all (λ b. eqb b 0) bytes.now }
 {
-    (0..n).all(|i| codec::read8(t, at + 8 * i) == 0)
+    bytes.iter().fold(0, |any, &b| any | b) == 0
 }
 
 // The first n of 64 stamps from `at` on are real, with sound one-time keys after all 64, and the room after each is zero.
@@ -291,8 +290,8 @@ fn are_sound_stamps(t: &[u8], at: usize, n: usize) -> bool
     let once = at + 512;
     are_real(t, at, n)
         && are_sound_once(t, once, n)
-        && are_zero(t, at + 8 * n, 64 - n)
-        && are_zero(t, once + 8 * n, 64 - n)
+        && are_zero(&t[at + 8 * n..once])
+        && are_zero(&t[once + 8 * n..once + 512])
 }
 
 // Whether the customer that the bytes say is sound.

@@ -4,7 +4,7 @@ use Rattle.customer_bytes.proofs.Stamps.{stamps_tests}
 use Rattle.customer_bytes.proofs.are_sound_stamps.Goals as goal
 
 pub returns-then-are_zero : goal.returns-then-are_zero
-returns-then-are_zero c = rw (stamps_tests _ _ _ _ c.requires.0) (search rules)
+returns-then-are_zero c = rw (stamps_tests _ _ _ c.requires.0) (search rules)
 
 pub returns-else-are_zero : goal.returns-else-are_zero
-returns-else-are_zero c = rw (stamps_tests _ _ _ _ c.requires.0) (search rules)
+returns-else-are_zero c = rw (stamps_tests _ _ _ c.requires.0) (search rules)

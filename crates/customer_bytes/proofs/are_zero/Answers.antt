@@ -1,16 +1,17 @@
--- Each number of the run is looked at.
-use mathlib.Core.Path.{refl, ◌∙◌}
-use Prim.Native.Nat.{◌+◌, ◌*◌}
-use Rattle.std.proofs.Common.{arith, rules, tests}
-use Rattle.std.proofs.lemmas.Iterator.{YieldsList-from_range}
-use Rattle.std.proofs.lemmas.Iterator.Search.{all_from_yields_List}
-use Rattle.customer_bytes.specs.Tests.{zero_at}
-use Rattle.customer_bytes.proofs.Stamps.{all_of_run}
+-- Their `|` tells.
+use mathlib.Core.Path.{ap, ◌∙◌}
+use Prim.Native.Nat.{ℕ}
+use lib.Dec.{eqb}
+use Rattle.std.proofs.Common.{rules, tests}
+use Rattle.std.specs.Int.Bits.{bit_or}
+use Rattle.std.proofs.lemmas.Iterator.{YieldsList-from_slice}
+use Rattle.std.proofs.lemmas.Iterator.Consumers.{fold_from_yields_List}
+use Rattle.customer_bytes.proofs.Zeros.{fold_zero}
 use Rattle.customer_bytes.proofs.are_zero.Goals as goal
 
 pub returns : goal.returns
 returns c =
     let a = c.args in
-    all_from_yields_List (λ i. zero_at a.t.now (a.at + 8 * i)) _ _ c.all.result c.all.ensures.ran
-    (YieldsList-from_range 0 a.n a.n refl (omega arith)) (λ x b q k. search (rules, tests))
-    ∙ all_of_run (zero_at a.t.now) a.at a.n
+    ap (λ (x : ℕ). eqb x 0) (fold_from_yields_List _ bit_or 0 c.fold.result c.fold.ensures.ran
+    (YieldsList-from_slice a.bytes.now cc) (λ b x d q k. search (rules, tests)))
+    ∙ fold_zero 0 a.bytes.now
