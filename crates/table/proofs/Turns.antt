@@ -1,4 +1,4 @@
--- A turn of the loops over dates and over records: the first of a run, and the run past it.
+-- Runs of dates and of records: the first of a run and the run past it, and each by its place.
 -- Assumes nothing.
 use Rattle.std.specs.Prelude.{◌&&◌, ◌||◌, not, find, if◌then◌else◌, Option, None, Some}
 use Rattle.std.specs.List.{list_all, list_any, range_with_len}
@@ -79,28 +79,6 @@ get_or_customers (suc n) p b (suc i) d h =
     (get_or_customers n (p + record_width) b i d (le_of_suc-le-suc h) ∙ ap (λ (k : ℕ). customer_from (dec customer_shape k b)) e)
 
 -- ---- what a turn tells of the definitions
-
-pub dates_step : (x p n m : ℕ) (b : List ℕ) → n ≡ suc m
-    → ok_dates (x ∷ dates_at p n b) ≡
-    both (real_date x) (both (earlier x (num (part p 4 b))) (ok_dates (num (part p 4 b) ∷ dates_at (p + 4) m b)))
-unfolding ok_dates all rising
-dates_step x p n m b e = rw (dates_suc p n m b e) (both_turn (real_date x) _ (earlier x (num (part p 4 b))) _)
-
--- x is real, and y comes next
-pub dates_turn : (x y p n m : ℕ) (b : List ℕ) → n ≡ suc m → real_date x ≡ true → y ≡ num (part p 4 b)
-    → ok_dates (x ∷ dates_at p n b) ≡ both (earlier x y) (ok_dates (y ∷ dates_at (p + 4) m b))
-dates_turn x y p n m b e r f =
-    dates_step x p n m b e
-    ∙ decides _ _ r
-    ∙ ap (λ (z : ℕ). both (earlier x z) (ok_dates (z ∷ dates_at (p + 4) m b))) (sym f)
-
-pub dates_end : (x p n : ℕ) (b : List ℕ) → n ≡ 0 → ok_dates (x ∷ dates_at p n b) ≡ real_date x
-unfolding ok_dates all rising
-dates_end x p n b e = rw (dates_none p n b e) (both_true _ ∙ both_true (real_date x))
-
-pub dates_empty : (p n : ℕ) (b : List ℕ) → n ≡ 0 → true ≡ ok_dates (dates_at p n b)
-unfolding ok_dates all rising both
-dates_empty p n b e = rw (dates_none p n b e)
 
 pub place_step : (i : ℕ) (x : List ℕ) (p n m : ℕ) (b : List ℕ) → n ≡ suc m
     → place_from i x (customers_at p n b) ≡ pick (same x (part p 25 b)) (Some i) (place_from (i + 1) x (customers_at (p + record_width) m b))
