@@ -12,11 +12,10 @@ use native.Mathlib.Omega.{arith}
 use lib.ListN.{length, get_or, length-map}
 use Rattle.ground.specs.Choice.{both, pick}
 use Rattle.ground.specs.Lists.{all, part, same}
-use Rattle.ground.proofs.Choices.{decides}
-use Rattle.ground.proofs.Bools.{both_turn, both_true, both_assoc}
+use Rattle.ground.proofs.Bools.{both_assoc}
 use Rattle.ground.proofs.Lists.{same_turned}
 use Rattle.ground.proofs.Std.{all_is, both_is, pick_is}
-use Rattle.calendar.specs.Dates.{real_date, earlier}
+use Rattle.calendar.specs.Dates.{earlier}
 use Rattle.splices.specs.Bytes.{num}
 use Rattle.codec.specs.Layout.{number, many, width, repeated, dec}
 use Rattle.codec.proofs.Laws.{repeated-length}
@@ -25,7 +24,7 @@ use Rattle.customer_bytes.proofs.Laws.{customer_at_lem}
 use Rattle.customer.specs.Customer.{sound_customer}
 use Rattle.customer.specs.declared.Customer.{Customer}
 use Rattle.table.specs.Table.{rising, place_from, is_unknown}
-use Rattle.table.specs.Tests.{dates_at, customers_at, ok_dates, ok_record, ok_records}
+use Rattle.table.specs.Tests.{dates_at, customers_at, ok_record, ok_records}
 
 -- ---- n from p on, where n is m + 1
 
