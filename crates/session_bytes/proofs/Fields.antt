@@ -7,17 +7,15 @@ use mathlib.Core.Option.{none, some}
 use Prim.Native.Nat.{ℕ, zero, suc, ◌≤◌, ◌<◌, ◌^◌}
 use native.Mathlib.Omega.{arith}
 use Rattle.ground.specs.Choice.{both}
-use Rattle.splices.specs.Bytes.{bytes_of}
-use Rattle.codec.specs.Layout.{perhaps, Value, scalar, enc, Fits}
+use Rattle.codec.specs.Layout.{perhaps, Value, scalar, Fits}
 use Rattle.digest.specs.Ranges.{StateFits}
 use Rattle.digest.specs.declared.State.{State}
-use Rattle.message.specs.declared.Extent.{Extent}
-use Rattle.message.specs.declared.Extent.TheVariants.{Whole, TooShort, LengthNotDigits, OtherLength, CutShort}
+use Rattle.message.specs.declared.Extent.TheVariants.{CutShort}
 use Rattle.checks.specs.Checks.{key_or0}
 use Rattle.session.specs.Ranges.{Encodes}
 use Rattle.session.specs.declared.Place.TheVariants.{Closed}
 use Rattle.session.specs.declared.Session.{Session}
-use Rattle.session_bytes.specs.Names.{place_numbered, extent_number, extent_numbered}
+use Rattle.session_bytes.specs.Names.{place_numbered, extent_numbered}
 use Rattle.session_bytes.specs.Session.{head_shape, line_shape, once_shape, state_shape, running_shape, session_shape}
 use Rattle.session_bytes.specs.Session.{key_from, session_from, key_to, state_to, session_to, state_from}
 

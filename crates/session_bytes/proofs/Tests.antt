@@ -2,16 +2,18 @@
 -- Assumes nothing.
 use mathlib.Core.Path.{◌≡◌, refl, sym, ◌∙◌}
 use mathlib.Core.Bool.{Bool, true, false}
-use mathlib.Core.List.{List, [], ◌∷◌, ◌++◌}
-use Prim.Native.Nat.{ℕ, zero, suc}
+use mathlib.Core.List.{List}
+use Prim.Native.Nat.{ℕ, ◌+◌}
 use native.Mathlib.Omega.{arith}
-use borrow.Author.Tests.{eq-eqb, ne_eqb}
-use lib.Dec.{eqb, ltb}
-use lib.ListN.{length, get_or}
-use Rattle.ground.specs.Choice.{both}
-use Rattle.ground.specs.Lists.{part, same, Each}
-use Rattle.ground.proofs.Choices.{fails_left, fails_right, decides}
-use Rattle.ground.proofs.Bools.{both_true}
+use borrow.Author.Tests.{eq-eqb, eqb-true, ne_eqb, le-leb, leb-true, lt-ltb, ltb-true}
+use lib.Dec.{eqb, leb, ltb}
+use lib.ListN.{length}
+use Rattle.std.specs.Prelude.{◌&&◌}
+use Rattle.std.proofs.Math.Bool.{and-true, and_assoc}
+use Rattle.ground.specs.Lists.{part, same}
+use Rattle.ground.proofs.Choices.{fails_left, decides}
+use Rattle.ground.proofs.Bools.{decided, clash}
+use Rattle.ground.proofs.Std.{both_is}
 use Rattle.ground.proofs.Parts.{part_all}
 use Rattle.splices.specs.Bytes.{num}
 use Rattle.splices.proofs.Splice.{AllBytes}
@@ -20,76 +22,47 @@ use Rattle.codec.proofs.Laws.{exact}
 use Rattle.session_bytes.specs.Session.{session_size, once_shape, session_shape, session_bytes, session_of, is_session}
 use Rattle.session_bytes.proofs.Fields.{fields_back}
 
--- all of them hold
-unfoldable every : List Bool → Bool
-every [] = true
-every (t ∷ ts) = both t (every ts)
+-- the number of the byte at o is at most n
+abbrev most : ℕ → ℕ → List ℕ → Bool
+most o n l = leb (num (part o 1 l)) n
 
--- one that fails decides, and the last where all before it hold
-one_fails : (ts : List Bool) (k : ℕ) → get_or ts k true ≡ false → every ts ≡ false
-unfolding every
-one_fails [] k e = e
-one_fails (t ∷ ts) zero e = fails_left t (every ts) e
-one_fails (t ∷ ts) (suc k) e = fails_right t (every ts) (one_fails ts k e)
+-- opened, ended, told, place, CR, gathered blank, SUO's extent, SUO blank, and the one-time key
+abbrev pub tests : List ℕ → Bool
+tests l =
+    most 0 1 l
+    && (most 1 1 l
+    && (most 2 1 l
+    && (most 3 6 l
+    && (most 61 1 l && (most 66 1 l && (most 228 4 l && (most 229 1 l && ok (perhaps once_shape) 391 l)))))))
 
-last_decides : (ts : List Bool) (t : Bool) → Each (λ (x : Bool). x ≡ true) ts → every (ts ++ (t ∷ [])) ≡ t
-unfolding every
-last_decides [] t h = both_true t
-last_decides (x ∷ ts) t h = decides x (every (ts ++ (t ∷ []))) h.0 ∙ last_decides ts t h.1
+below_is : (n m x : ℕ) → n ≡ m + 1 → ltb x n ≡ leb x m
+below_is n m x e =
+    decided (ltb x n) (leb x m) (λ q. le-leb x m (omega (arith, ltb-true x n q))) (λ q. lt-ltb x n (omega (arith, leb-true x m q)))
 
--- the number of w bytes at o is below n
-abbrev below : ℕ → ℕ → ℕ → List ℕ → Bool
-below o w n l = ltb (num (part o w l)) n
+flags_are : (x : ℕ) → ltb x 2 ≡ leb x 1
+flags_are x = below_is 2 1 x refl
 
--- opened, ended, told, place, CR, gathered blank, SUO's extent, SUO blank
-abbrev pub numbers : List ℕ → List Bool
-numbers l =
-    below 0 1 2 l ∷ below 1 1 2 l ∷ below 2 1 2 l ∷ below 3 1 7 l ∷ below 61 1 2 l ∷ below 66 1 2 l ∷ below 228 1 5 l ∷ below 229 1 2 l ∷ []
-
--- and the one-time key
-abbrev pub tests : List ℕ → List Bool
-tests l = numbers l ++ (ok (perhaps once_shape) 391 l ∷ [])
-
--- the layout's groups one after the other
-flat : (a b c d e f g h k : Bool)
-    → both (both (both a (both b (both c (both d true)))) e) (both (both f true) (both (both g (both h true)) (both k true)))
-    ≡ every (a ∷ b ∷ c ∷ d ∷ e ∷ f ∷ g ∷ h ∷ k ∷ [])
-unfolding both every
-flat false b c d e f g h k = refl
-flat true false c d e f g h k = refl
-flat true true false d e f g h k = refl
-flat true true true false e f g h k = refl
-flat true true true true false f g h k = refl
-flat true true true true true false g h k = refl
-flat true true true true true true false h k = refl
-flat true true true true true true true false k = refl
-flat true true true true true true true true k = refl
-
-module _ (l : List ℕ) (n : length l ≡ session_size) where
-  session_test : ok session_shape 0 l ≡ every (tests l)
-  unfolding ok width both
-  session_test =
-      flat (below 0 1 2 l) (below 1 1 2 l) (below 2 1 2 l) (below 3 1 7 l) (below 61 1 2 l) (below 66 1 2 l) (below 228 1 5 l)
-      (below 229 1 2 l) (ok (perhaps once_shape) 391 l)
-
-  module _ (b : AllBytes l) where
-    by_tests : is_session l ≡ every (tests l)
-    unfolding is_session session_bytes session_of width
-    by_tests =
-        decides (eqb (length l) session_size) _ (eq-eqb (length l) session_size n)
-        ∙ (λ i. same (enc session_shape (fields_back (dec session_shape 0 l) i)) (sym (part_all l 472 (omega arith)) i))
-        ∙ sym (exact session_shape 0 l b (omega arith))
-        ∙ session_test
-
-    -- test k fails
-    pub refused : (k : ℕ) → get_or (tests l) k true ≡ false → false ≡ is_session l
-    refused k f = sym (by_tests ∙ one_fails (tests l) k f)
-
-    -- the numbers pass
-    pub passed : Each (λ (x : Bool). x ≡ true) (numbers l) → ok (perhaps once_shape) 391 l ≡ is_session l
-    passed h = sym (by_tests ∙ last_decides (numbers l) (ok (perhaps once_shape) 391 l) h)
+layout_test : (l : List ℕ) → ok session_shape 0 l ≡ tests l
+unfolding ok width
+layout_test l =
+    simp (both_is, and-true, and_assoc, flags_are, below_is 7 6 (num (part 3 1 l)) refl, below_is 5 4 (num (part 228 1 l)) refl)
 
 -- another length is none
-pub wrong_length : (l : List ℕ) → (length l ≡ session_size → ⊥) → false ≡ is_session l
+wrong_length : (l : List ℕ) → (length l ≡ session_size → ⊥) → is_session l ≡ false
 unfolding is_session
-wrong_length l n = sym (fails_left (eqb (length l) session_size) (same (session_bytes (session_of l)) l) (ne_eqb (length l) session_size n))
+wrong_length l n = fails_left (eqb (length l) session_size) (same (session_bytes (session_of l)) l) (ne_eqb (length l) session_size n)
+
+right_length : (l : List ℕ) → length l ≡ session_size → AllBytes l → is_session l ≡ tests l
+unfolding is_session session_bytes session_of width
+right_length l n b =
+    decides (eqb (length l) session_size) _ (eq-eqb (length l) session_size n)
+    ∙ (λ i. same (enc session_shape (fields_back (dec session_shape 0 l) i)) (sym (part_all l 472 (omega arith)) i))
+    ∙ sym (exact session_shape 0 l b (omega arith))
+    ∙ layout_test l
+
+pub session_test : (l : List ℕ) → AllBytes l → is_session l ≡ (eqb (length l) 472 && tests l)
+session_test l b = go (eqb (length l) 472) refl
+  where
+    go : (t : Bool) → eqb (length l) 472 ≡ t → is_session l ≡ (t && tests l)
+    go true e = right_length l (eqb-true (length l) 472 e) b
+    go false e = wrong_length l (λ n. clash (eqb (length l) 472) (eq-eqb (length l) 472 n) e)

@@ -8,7 +8,6 @@ use Rattle.ground.specs.Lists.{same}
 use Rattle.codec.specs.Layout.{Shape, number, named, text, perhaps, within, ◌⊗◌, Value, enc, dec}
 use Rattle.codec.specs.Flag.{flag}
 use Rattle.digest.specs.declared.State.{State}
-use Rattle.message.specs.declared.Extent.{Extent}
 use Rattle.message.specs.declared.Collected.{Collected}
 use Rattle.session.specs.Machine.{unopened}
 use Rattle.session.specs.declared.Gathered.{Gathered}

@@ -5,10 +5,9 @@
 ghost use Rattle.std.specs.Prelude.{◌≡◌, ◌+◌, ◌≤◌, length};
 ghost use Rattle.splices.specs.Bytes.{splice};
 ghost use Rattle.codec.specs.Layout.{perhaps, enc, dec, ok, Sized};
-ghost use Rattle.codec.specs.Rows.{cells};
-ghost use Rattle.session_bytes.specs.Names.{kind_number, place_number, place_numbered, extent_number, extent_numbered};
-ghost use Rattle.session_bytes.specs.Session.{session_size, head_shape, front_shape, gathered_shape, suo_shape, once_shape, state_shape};
-ghost use Rattle.session_bytes.specs.Session.{running_shape, batch_shape, state_from, head_to, front_to, gathered_to, suo_to, running_to};
+ghost use Rattle.session_bytes.specs.Names.{place_number, place_numbered, extent_number, extent_numbered};
+ghost use Rattle.session_bytes.specs.Session.{session_size, head_shape, line_shape, front_shape, gathered_shape, suo_shape, once_shape, state_shape};
+ghost use Rattle.session_bytes.specs.Session.{running_shape, batch_shape, state_from, state_to, head_to, front_to, gathered_to, suo_to, key_to, running_to};
 ghost use Rattle.session_bytes.specs.Session.{batch_to, session_bytes, session_of, is_session, session_in, session_stored};
 
 // The bytes that a session takes.
@@ -19,36 +18,25 @@ const SIZE: usize = 472;
 fn place_numbered(n: u32) -> session::Place
     ensures { result ≡ place_numbered n }
 {
-    if n == 0 {
-        return session::Place::BeforeEsi;
+    match n {
+        0 => session::Place::BeforeEsi,
+        1 => session::Place::Outside,
+        2 => session::Place::Collecting(message::Kind::Esi),
+        3 => session::Place::Collecting(message::Kind::Suo),
+        4 => session::Place::Collecting(message::Kind::Var),
+        5 => session::Place::InData,
+        _ => session::Place::Closed,
     }
-    if n == 1 {
-        return session::Place::Outside;
-    }
-    if n == 2 {
-        return session::Place::Collecting(message::Kind::Esi);
-    }
-    if n == 3 {
-        return session::Place::Collecting(message::Kind::Suo);
-    }
-    if n == 4 {
-        return session::Place::Collecting(message::Kind::Var);
-    }
-    if n == 5 {
-        return session::Place::InData;
-    }
-    session::Place::Closed
 }
 
 fn opening_in(b: &[u8]) -> opening::Opening
     requires { length b.now ≡ session_size }
     ensures { result ≡ (session_of b.now).opening }
 {
-    let today = calendar::Date {
-        yymmdd: codec::read4(b, 4),
-    };
     opening::Opening {
-        today,
+        today: calendar::Date {
+            yymmdd: codec::read4(b, 4),
+        },
         time: codec::read4(b, 8),
         kind: codec::read4(b, 12),
         clock: codec::read8(b, 16),
@@ -71,19 +59,13 @@ fn gathered_in(b: &[u8]) -> session::Gathered
 fn extent_numbered(n: u32) -> message::Extent
     ensures { result ≡ extent_numbered n }
 {
-    if n == 0 {
-        return message::Extent::Whole;
+    match n {
+        0 => message::Extent::Whole,
+        1 => message::Extent::TooShort,
+        2 => message::Extent::LengthNotDigits,
+        3 => message::Extent::OtherLength,
+        _ => message::Extent::CutShort,
     }
-    if n == 1 {
-        return message::Extent::TooShort;
-    }
-    if n == 2 {
-        return message::Extent::LengthNotDigits;
-    }
-    if n == 3 {
-        return message::Extent::OtherLength;
-    }
-    message::Extent::CutShort
 }
 
 fn suo_in(b: &[u8]) -> message::Collected
@@ -103,62 +85,55 @@ fn key_in(b: &[u8]) -> Option<u64>
     requires { length b.now ≡ session_size }
     ensures { result ≡ (session_of b.now).batch.once }
 {
-    if codec::read1(b, 391) != 1 {
-        return None;
-    }
-    Some(codec::read8(b, 392))
+    (codec::read1(b, 391) == 1).then(|| codec::read8(b, 392))
 }
 
 fn state_at(b: &[u8], at: usize) -> digest::State
     requires { at + 24 ≤ length b.now }
     ensures { result ≡ state_from (dec state_shape at b.now) }
 {
-    let chain = codec::read8(b, at);
-    let at = at + 8;
-    let block = codec::read8(b, at);
-    let at = at + 8;
-    let n = codec::read8(b, at);
-    digest::State { chain, block, n }
+    digest::State {
+        chain: codec::read8(b, at),
+        block: codec::read8(b, at + 8),
+        n: codec::read8(b, at + 16),
+    }
 }
 
 fn batch_in(b: &[u8]) -> session::Batch
     requires { length b.now ≡ session_size }
     ensures { result ≡ (session_of b.now).batch }
 {
-    let suo = suo_in(b);
-    let once = key_in(b);
-    let start = state_at(b, 400);
-    let solid = state_at(b, 424);
-    let last = state_at(b, 448);
-    let running = digest::Running { start, solid, last };
-    session::Batch { suo, once, running }
+    session::Batch {
+        suo: suo_in(b),
+        once: key_in(b),
+        running: digest::Running {
+            start: state_at(b, 400),
+            solid: state_at(b, 424),
+            last: state_at(b, 448),
+        },
+    }
 }
 
 fn session_in(b: &[u8]) -> session::Session
     requires { length b.now ≡ session_size }
     ensures { result ≡ session_of b.now }
 {
-    let opening = opening_in(b);
     let mut sender = [0u8; 25];
     codec::read_bytes(&mut sender, b, 32);
-    let line = session::Line {
-        size: codec::read4(b, 57),
-        cr: codec::read1(b, 61) == 1,
-    };
-    let place = place_numbered(codec::read1(b, 3));
-    let gathered = gathered_in(b);
-    let batch = batch_in(b);
     session::Session {
         opened: codec::read1(b, 0) == 1,
         ended: codec::read1(b, 1) == 1,
         told: codec::read1(b, 2) == 1,
-        opening,
+        opening: opening_in(b),
         made: codec::read8(b, 24),
         sender,
-        line,
-        place,
-        gathered,
-        batch,
+        line: session::Line {
+            size: codec::read4(b, 57),
+            cr: codec::read1(b, 61) == 1,
+        },
+        place: place_numbered(codec::read1(b, 3)),
+        gathered: gathered_in(b),
+        batch: batch_in(b),
     }
 }
 
@@ -169,45 +144,23 @@ fn is_exact_key(b: &[u8]) -> bool
     requires { length b.now ≡ session_size }
     ensures { result ≡ ok (perhaps once_shape) 391 b.now }
 {
-    if codec::read1(b, 391) == 1 {
-        return true;
-    }
-    let zeros = [0u8; 9];
-    codec::same_at(&zeros, b, 391)
+    codec::read1(b, 391) == 1 || codec::same_at(&[0; 9], b, 391)
 }
 
 // Whether bytes are a session's.
 pub fn is_session(b: &[u8]) -> bool
     ensures { result ≡ is_session b.now }
 {
-    if b.len() != SIZE {
-        return false;
-    }
-    if codec::read1(b, 0) > 1 {
-        return false;
-    }
-    if codec::read1(b, 1) > 1 {
-        return false;
-    }
-    if codec::read1(b, 2) > 1 {
-        return false;
-    }
-    if codec::read1(b, 3) > 6 {
-        return false;
-    }
-    if codec::read1(b, 61) > 1 {
-        return false;
-    }
-    if codec::read1(b, 66) > 1 {
-        return false;
-    }
-    if codec::read1(b, 228) > 4 {
-        return false;
-    }
-    if codec::read1(b, 229) > 1 {
-        return false;
-    }
-    is_exact_key(b)
+    b.len() == SIZE
+        && codec::read1(b, 0) <= 1
+        && codec::read1(b, 1) <= 1
+        && codec::read1(b, 2) <= 1
+        && codec::read1(b, 3) <= 6
+        && codec::read1(b, 61) <= 1
+        && codec::read1(b, 66) <= 1
+        && codec::read1(b, 228) <= 4
+        && codec::read1(b, 229) <= 1
+        && is_exact_key(b)
 }
 
 // The session that bytes say; bytes that are none say one that is not open.
@@ -222,23 +175,15 @@ pub fn load(b: &[u8]) -> session::Session
 
 // ---- writing, where the bytes have a session's length
 
-fn kind_number(k: message::Kind) -> u64
-    ensures { result ≡ kind_number k }
-{
-    match k {
-        message::Kind::Esi => 2,
-        message::Kind::Suo => 3,
-        message::Kind::Var => 4,
-    }
-}
-
-fn place_number(p: session::Place) -> u64
+fn place_number(p: session::Place) -> u32
     ensures { result ≡ place_number p }
 {
     match p {
         session::Place::BeforeEsi => 0,
         session::Place::Outside => 1,
-        session::Place::Collecting(kind) => kind_number(kind),
+        session::Place::Collecting(message::Kind::Esi) => 2,
+        session::Place::Collecting(message::Kind::Suo) => 3,
+        session::Place::Collecting(message::Kind::Var) => 4,
         session::Place::InData => 5,
         session::Place::Closed => 6,
     }
@@ -257,21 +202,27 @@ fn extent_number(x: message::Extent) -> u32
 }
 
 // The numbers before the sender.
-fn head_row(s: session::Session) -> [u64; 9]
-    ensures { result ≡ cells head_shape (head_to s) }
+fn store_head(b: &mut [u8], s: session::Session)
+    requires { length b.old ≡ session_size }
+    ensures { b.new ≡ splice 0 (enc head_shape (head_to s)) b.old }
 {
-    let place = s.place;
-    [
-        codec::flag_cell(s.opened),
-        codec::flag_cell(s.ended),
-        codec::flag_cell(s.told),
-        place_number(place),
-        s.opening.today.yymmdd as u64,
-        s.opening.time as u64,
-        s.opening.kind as u64,
-        s.opening.clock,
-        s.made,
-    ]
+    codec::write1(b, 0, codec::flag_number(s.opened));
+    codec::write1(b, 1, codec::flag_number(s.ended));
+    codec::write1(b, 2, codec::flag_number(s.told));
+    codec::write1(b, 3, place_number(s.place));
+    codec::write4(b, 4, s.opening.today.yymmdd);
+    codec::write4(b, 8, s.opening.time);
+    codec::write4(b, 12, s.opening.kind);
+    codec::write8(b, 16, s.opening.clock);
+    codec::write8(b, 24, s.made);
+}
+
+fn store_line(b: &mut [u8], line: session::Line)
+    requires { length b.old ≡ session_size }
+    ensures { b.new ≡ splice 57 (enc line_shape (line.size, line.cr)) b.old }
+{
+    codec::write4(b, 57, line.size);
+    codec::write1(b, 61, codec::flag_number(line.cr));
 }
 
 // All that stands before the characters on their way.
@@ -280,11 +231,9 @@ fn store_front(b: &mut [u8], s: session::Session)
     ensures written { b.new ≡ splice 0 (enc front_shape (front_to s)) b.old }
     ensures sizes { Sized front_shape (front_to s) }
 {
-    let head = head_row(s);
-    let line = [s.line.size as u64, codec::flag_cell(s.line.cr)];
-    codec::write_row(b, 0, &[1, 1, 1, 1, 4, 4, 4, 8, 8], &head);
+    store_head(b, s);
     codec::write_bytes(b, 32, &s.sender);
-    codec::write_row(b, 57, &[4, 1], &line);
+    store_line(b, s.line);
 }
 
 // The count's lowest four bytes, and the characters.
@@ -303,48 +252,43 @@ fn store_suo(b: &mut [u8], c: message::Collected)
     ensures written { b.new ≡ splice 228 (enc suo_shape (suo_to c)) b.old }
     ensures sizes { Sized suo_shape (suo_to c) }
 {
-    let extent = c.extent;
-    codec::write1(b, 228, extent_number(extent));
+    codec::write1(b, 228, extent_number(c.extent));
     codec::write1(b, 229, codec::flag_number(c.blank));
     codec::write_bytes(b, 230, &c.text);
 }
 
-// The numbers past the SUO: zeros where no key is held.
-fn running_row(a: session::Batch) -> [u64; 11]
-    ensures { result ≡ cells running_shape (running_to a) }
+// The one-time key, or as many zeros where none is held.
+fn store_key(b: &mut [u8], once: Option<u64>)
+    requires { length b.old ≡ session_size }
+    ensures { b.new ≡ splice 391 (enc (perhaps once_shape) (key_to once)) b.old }
 {
-    let once = a.once;
-    let start = a.running.start;
-    let solid = a.running.solid;
-    let last = a.running.last;
-    let Some(key) = once else {
-        return [
-            0,
-            0,
-            start.chain,
-            start.block,
-            start.n,
-            solid.chain,
-            solid.block,
-            solid.n,
-            last.chain,
-            last.block,
-            last.n,
-        ];
-    };
-    [
-        1,
-        key,
-        start.chain,
-        start.block,
-        start.n,
-        solid.chain,
-        solid.block,
-        solid.n,
-        last.chain,
-        last.block,
-        last.n,
-    ]
+    match once {
+        None => codec::write_bytes(b, 391, &[0; 9]),
+        Some(key) => {
+            codec::write1(b, 391, 1);
+            codec::write8(b, 392, key);
+        }
+    }
+}
+
+fn store_state(b: &mut [u8], at: usize, s: digest::State)
+    requires { at + 24 ≤ length b.old }
+    ensures { b.new ≡ splice at (enc state_shape (state_to s)) b.old }
+{
+    codec::write8(b, at, s.chain);
+    codec::write8(b, at + 8, s.block);
+    codec::write8(b, at + 16, s.n);
+}
+
+// All that stands past the SUO.
+fn store_running(b: &mut [u8], a: session::Batch)
+    requires { length b.old ≡ session_size }
+    ensures { b.new ≡ splice 391 (enc running_shape (running_to a)) b.old }
+{
+    store_key(b, a.once);
+    store_state(b, 400, a.running.start);
+    store_state(b, 424, a.running.solid);
+    store_state(b, 448, a.running.last);
 }
 
 fn store_batch(b: &mut [u8], a: session::Batch)
@@ -352,29 +296,24 @@ fn store_batch(b: &mut [u8], a: session::Batch)
     ensures written { b.new ≡ splice 228 (enc batch_shape (batch_to a)) b.old }
     ensures sizes { Sized batch_shape (batch_to a) }
 {
-    let suo = a.suo;
-    let running = running_row(a);
-    store_suo(b, suo);
-    codec::write_row(b, 391, &[1, 8, 8, 8, 8, 8, 8, 8, 8, 8, 8], &running);
+    store_suo(b, a.suo);
+    store_running(b, a);
 }
 
 fn store_session(b: &mut [u8], s: session::Session)
     requires { length b.old ≡ session_size }
     ensures { b.new ≡ session_bytes s }
 {
-    let gathered = s.gathered;
-    let batch = s.batch;
     store_front(b, s);
-    store_gathered(b, gathered);
-    store_batch(b, batch);
+    store_gathered(b, s.gathered);
+    store_batch(b, s.batch);
 }
 
 // Writes a session over bytes of its length; others stay.
 pub fn store(b: &mut [u8], s: session::Session)
     ensures { b.new ≡ session_stored b.old s }
 {
-    if b.len() != SIZE {
-        return;
+    if b.len() == SIZE {
+        store_session(b, s);
     }
-    store_session(b, s);
 }

@@ -1,8 +1,11 @@
 -- Bytes are a table just when the tests that `is_table` makes hold: the header says what the counts give, and every record is exact.
 -- Assumes nothing.
+use Rattle.std.specs.Prelude.{◌&&◌}
+use Rattle.ground.proofs.Std.{both_is}
+use lib.Dec.{eqb, leb}
 use mathlib.Core.Path.{◌≡◌, refl, sym, ap, ap₂, ◌∙◌}
 use mathlib.Core.List.{List, [], ◌∷◌, map}
-use mathlib.Core.Bool.{Bool, true, false}
+use mathlib.Core.Bool.{Bool, true}
 use Prim.Native.Nat.{ℕ, zero, suc, ◌+◌, ◌*◌, ◌≤◌, min}
 use native.Mathlib.Omega.{arith}
 use borrow.Author.Tests.{eqb-true, eq-eqb, leb-true, le-leb}
@@ -10,15 +13,15 @@ use lib.ListN.{length, take}
 use Rattle.ground.specs.Choice.{both}
 use Rattle.ground.specs.Lists.{all, part, same}
 use Rattle.ground.proofs.Choices.{left, right, join, same-eq, eq-same}
-use Rattle.ground.proofs.Bools.{clash, refuted, decided}
+use Rattle.ground.proofs.Bools.{decided}
 use Rattle.ground.proofs.Parts.{part_length, part_start}
 use Rattle.calendar.specs.Dates.{real_date}
 use Rattle.splices.specs.Bytes.{num}
 use Rattle.splices.proofs.Splice.{AllBytes}
 use Rattle.codec.specs.Layout.{number, many, Value, width, enc, every, dec, ok}
 use Rattle.codec.proofs.Laws.{exact, dec_fits}
-use Rattle.customer_bytes.specs.Layout.{record_width, customer_shape, settings_shape, customer_from, customer_to, settings_from}
-use Rattle.customer_bytes.proofs.Laws.{customer_back, customer_at_lem, exact_at_lem}
+use Rattle.customer_bytes.specs.Layout.{record_width, customer_shape, settings_shape, customer_from, customer_to, settings_from, settings_at}
+use Rattle.customer_bytes.proofs.Laws.{customer_back, customer_at_lem, exact_at_lem, settings_at_lem}
 use Rattle.customer.specs.Settings.{sound_settings}
 use Rattle.customer.specs.declared.Customer.{Customer}
 use Rattle.table.specs.Table.{Table, customer_fits, distinct, each_sound, sound_table, rising}
@@ -58,13 +61,6 @@ head b e =
       offset = eqb-true _ _ (left _ _ e₃);
       total = eqb-true _ _ (right _ _ e₃);
     }
-
-head_ok : (b : List ℕ) → Header b → ok_header b ≡ true
-unfolding ok_header dec width
-head_ok b h =
-    join _ _ (le-leb _ _ h.holidays)
-    (join _ _ (le-leb _ _ h.customers)
-    (join _ _ (eq-eqb _ _ h.start) (join _ _ (eq-eqb _ _ h.offset) (eq-eqb _ _ h.total))))
 
 -- the counts are among them
 pub counts : (b : List ℕ) → (holiday_count b ≡ min 200 (four 8 b)) × (customer_count b ≡ min 32 (four 16 b))
@@ -269,18 +265,52 @@ module _ (b : List ℕ) (bs : AllBytes b) (f : Facts b) where
       (ap (λ (u : Table). same (encode u) (take (length (encode u)) b)) is
       ∙ eq-same _ _ (encode_is ∙ part_start b T ∙ ap (λ (k : ℕ). take k b) (sym l))))
 
--- ---- what the tests return
+-- ---- the tests, one after the other
 
--- a header of which something does not hold, and the last test of a header
-pub no_header : (b : List ℕ) → (Header b → ⊥) → false ≡ ok_header b
-no_header b f = sym (refuted (ok_header b) (λ e. f (head b e)))
+pub header_test : (b : List ℕ) → ok_header b
+    ≡ (leb (four 8 b) 200
+    && (leb (four 16 b) 32
+    && (eqb (four 12 b) 82
+    && (eqb (four 20 b) (82 + 4 * four 8 b) && eqb (four 0 b) (82 + 4 * four 8 b + 1109 * four 16 b)))))
+unfolding ok_header dec width
+header_test b = simp both_is
 
-pub last_of_header : (b : List ℕ) (v : Bool) → (v ≡ true → Header b) → (Header b → v ≡ true) → v ≡ ok_header b
-last_of_header b v f g = decided v (ok_header b) (λ e. head_ok b (f e)) (λ e. g (head b e))
+pub table_test : (b : List ℕ) → AllBytes b → is_table b
+    ≡ (eqb (length b) 49152
+    && (ok_header b
+    && (real_date (four 4 b)
+    && (sound_settings (settings_at 24 b)
+    && (ok_dates (dates_at holidays_start (holiday_count b) b) && ok_records (customer_count b) (customers_start (holiday_count b)) b)))))
+table_test b bs = decided (is_table b) (both (eqb (length b) 49152) rest) there back ∙ simp both_is
+  where
+    rest : Bool
+    rest =
+        both (ok_header b)
+        (both (real_date (four 4 b))
+        (both (sound_settings (settings_at 24 b))
+        (both (ok_dates (dates_at holidays_start (holiday_count b) b)) (ok_records (customer_count b) (customers_start (holiday_count b)) b))))
 
--- a table's test that fails, and the last one, which decides where the others hold
-pub no_table_lem : (b : List ℕ) (v : Bool) → AllBytes b → (Facts b → v ≡ true) → v ≡ false → false ≡ is_table b
-no_table_lem b v bs f q = sym (refuted (is_table b) (λ e. clash v (f (facts b bs e)) q))
+    there : is_table b ≡ true → both (eqb (length b) 49152) rest ≡ true
+    there e =
+        let f = facts b bs e in
+        join _ _ (eq-eqb (length b) 49152 f.size)
+        (join _ _ f.head
+        (join _ _ f.day
+        (join _ _ (ap sound_settings (settings_at_lem 24 b (omega (arith, f.size))) ∙ f.settings) (join _ _ f.dates f.records))))
 
-pub last_of_table : (b : List ℕ) (v : Bool) → AllBytes b → (v ≡ true → Facts b) → (Facts b → v ≡ true) → v ≡ is_table b
-last_of_table b v bs f g = decided v (is_table b) (λ e. table_from b bs (f e)) (λ e. g (facts b bs e))
+    back : both (eqb (length b) 49152) rest ≡ true → is_table b ≡ true
+    back e =
+        let n : length b ≡ 49152 = eqb-true (length b) 49152 (left _ _ e) in
+        let e₁ = right _ _ e in
+        let e₂ = right _ _ e₁ in
+        let e₃ = right _ _ e₂ in
+        let e₄ = right _ _ e₃ in
+        table_from b bs
+        (record {
+          size = n;
+          head = left _ _ e₁;
+          day = left _ _ e₂;
+          settings = ap sound_settings (sym (settings_at_lem 24 b (omega (arith, n)))) ∙ left _ _ e₃;
+          dates = left _ _ e₄;
+          records = right _ _ e₄;
+        })

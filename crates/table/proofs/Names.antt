@@ -1,5 +1,7 @@
 -- Two names of 25 bytes are the same just when the numbers are that three eights of them and the byte between are.
 -- Assumes nothing.
+use Rattle.std.specs.Prelude.{◌&&◌}
+use Rattle.ground.proofs.Std.{both_is}
 use mathlib.Core.Path.{◌≡◌, sym, ap, ap₂, ◌∙◌}
 use mathlib.Core.Bool.{Bool, true, false}
 use mathlib.Core.List.{List}
@@ -41,7 +43,7 @@ module _ (l : List ℕ) (bs : AllBytes l) where
       ∙ same-append (part a n l) _ (part b n l) _ (part_length l a n h ∙ sym (part_length l b n k))
 
   pub names_same : (a b : ℕ) → a + 25 ≤ length l → b + 25 ≤ length l → same (part a 25 l) (part b 25 l)
-      ≡ both (equal 8 (a + 17) (b + 17)) (both (equal 8 a b) (both (equal 8 (a + 8) (b + 8)) (equal 1 (a + 16) (b + 16))))
+      ≡ (equal 8 (a + 17) (b + 17) && (equal 8 a b && (equal 8 (a + 8) (b + 8) && equal 1 (a + 16) (b + 16))))
   names_same a b h k =
       let eights = cut 8 8 a b (omega arith) (omega arith)
       ∙ ap₂ both (word 8 a b (omega arith) (omega arith)) (word 8 (a + 8) (b + 8) (omega arith) (omega arith)) in
@@ -49,3 +51,4 @@ module _ (l : List ℕ) (bs : AllBytes l) where
       cut 17 8 a b (omega arith) (omega arith)
       ∙ ap₂ both names (word 8 (a + 17) (b + 17) (omega arith) (omega arith))
       ∙ last_first _ _ _ _
+      ∙ simp both_is

@@ -1,19 +1,21 @@
--- A turn of the loops over dates and over records: the first of a run, and the run past it.
+-- Runs of dates and of records: the first of a run and the run past it, and each by its place.
 -- Assumes nothing.
-use Rattle.std.specs.Prelude.{None, Some}
-use mathlib.Core.Path.{◌≡◌, refl, sym, ap, ◌∙◌}
-use mathlib.Core.List.{List, [], ◌∷◌}
-use mathlib.Core.Bool.{Bool, true}
-use Prim.Native.Nat.{ℕ, zero, suc, ◌+◌, ◌*◌, ◌<◌, ◌≤◌}
+use Rattle.std.specs.Prelude.{◌&&◌, ◌||◌, not, find, if◌then◌else◌, Option, None, Some}
+use Rattle.std.specs.List.{list_all, list_any, range_with_len}
+use Rattle.std.proofs.lemmas.List.Folds.{list_all-map}
+use mathlib.Core.Path.{◌≡◌, refl, sym, ap, ap₂, ◌∙◌}
+use mathlib.Core.List.{List, [], ◌∷◌, map}
+use mathlib.Core.Bool.{Bool, true, false}
+use Prim.Native.Nat.{ℕ, zero, suc, ◌+◌, ◌*◌, ◌-◌, ◌<◌, ◌≤◌}
 use native.Mathlib.Nat.{add-zero, not-suc-le-zero, le_of_suc-le-suc}
 use native.Mathlib.Omega.{arith}
 use lib.ListN.{length, get_or, length-map}
 use Rattle.ground.specs.Choice.{both, pick}
 use Rattle.ground.specs.Lists.{all, part, same}
-use Rattle.ground.proofs.Choices.{decides}
-use Rattle.ground.proofs.Bools.{both_turn, both_true, both_assoc}
+use Rattle.ground.proofs.Bools.{both_assoc}
 use Rattle.ground.proofs.Lists.{same_turned}
-use Rattle.calendar.specs.Dates.{real_date, earlier}
+use Rattle.ground.proofs.Std.{all_is, both_is, pick_is}
+use Rattle.calendar.specs.Dates.{earlier}
 use Rattle.splices.specs.Bytes.{num}
 use Rattle.codec.specs.Layout.{number, many, width, repeated, dec}
 use Rattle.codec.proofs.Laws.{repeated-length}
@@ -22,7 +24,7 @@ use Rattle.customer_bytes.proofs.Laws.{customer_at_lem}
 use Rattle.customer.specs.Customer.{sound_customer}
 use Rattle.customer.specs.declared.Customer.{Customer}
 use Rattle.table.specs.Table.{rising, place_from, is_unknown}
-use Rattle.table.specs.Tests.{dates_at, customers_at, ok_dates, ok_records}
+use Rattle.table.specs.Tests.{dates_at, customers_at, ok_record, ok_records}
 
 -- ---- n from p on, where n is m + 1
 
@@ -77,28 +79,6 @@ get_or_customers (suc n) p b (suc i) d h =
 
 -- ---- what a turn tells of the definitions
 
-pub dates_step : (x p n m : ℕ) (b : List ℕ) → n ≡ suc m
-    → ok_dates (x ∷ dates_at p n b) ≡
-    both (real_date x) (both (earlier x (num (part p 4 b))) (ok_dates (num (part p 4 b) ∷ dates_at (p + 4) m b)))
-unfolding ok_dates all rising
-dates_step x p n m b e = rw (dates_suc p n m b e) (both_turn (real_date x) _ (earlier x (num (part p 4 b))) _)
-
--- x is real, and y comes next
-pub dates_turn : (x y p n m : ℕ) (b : List ℕ) → n ≡ suc m → real_date x ≡ true → y ≡ num (part p 4 b)
-    → ok_dates (x ∷ dates_at p n b) ≡ both (earlier x y) (ok_dates (y ∷ dates_at (p + 4) m b))
-dates_turn x y p n m b e r f =
-    dates_step x p n m b e
-    ∙ decides _ _ r
-    ∙ ap (λ (z : ℕ). both (earlier x z) (ok_dates (z ∷ dates_at (p + 4) m b))) (sym f)
-
-pub dates_end : (x p n : ℕ) (b : List ℕ) → n ≡ 0 → ok_dates (x ∷ dates_at p n b) ≡ real_date x
-unfolding ok_dates all rising
-dates_end x p n b e = rw (dates_none p n b e) (both_true _ ∙ both_true (real_date x))
-
-pub dates_empty : (p n : ℕ) (b : List ℕ) → n ≡ 0 → true ≡ ok_dates (dates_at p n b)
-unfolding ok_dates all rising both
-dates_empty p n b e = rw (dates_none p n b e)
-
 pub place_step : (i : ℕ) (x : List ℕ) (p n m : ℕ) (b : List ℕ) → n ≡ suc m
     → place_from i x (customers_at p n b) ≡ pick (same x (part p 25 b)) (Some i) (place_from (i + 1) x (customers_at (p + record_width) m b))
 unfolding place_from
@@ -133,3 +113,91 @@ records_turn p n m b e h =
 pub records_end : (p n : ℕ) (b : List ℕ) → n ≡ 0 → true ≡ ok_records n p b
 unfolding ok_records
 records_end p n b e = rw e
+
+-- ---- runs by their places
+
+dates_run : (p a n : ℕ) (b : List ℕ) → dates_at (p + 4 * a) n b ≡ map (λ (i : ℕ). num (part (p + 4 * i) 4 b)) (range_with_len a n)
+dates_run p a zero b = dates_none (p + 4 * a) 0 b refl
+dates_run p a (suc n) b =
+    let e : p + 4 * a + 4 ≡ p + 4 * (a + 1) = omega arith in
+    dates_suc (p + 4 * a) (suc n) n b refl
+    ∙ ap (λ (l : List ℕ). num (part (p + 4 * a) 4 b) ∷ l) (ap (λ (k : ℕ). dates_at k n b) e ∙ dates_run p (a + 1) n b)
+
+pub all_dates : (f : ℕ → Bool) (p n : ℕ) (b : List ℕ) → all f (dates_at p n b)
+    ≡ list_all (λ (i : ℕ). f (num (part (p + 4 * i) 4 b))) (range_with_len 0 n)
+all_dates f p n b =
+    let e : p ≡ p + 4 * 0 = omega arith in
+    all_is f (dates_at p n b)
+    ∙ ap (list_all f) (ap (λ (k : ℕ). dates_at k n b) e ∙ dates_run p 0 n b)
+    ∙ list_all-map f (λ (i : ℕ). num (part (p + 4 * i) 4 b)) (range_with_len 0 n)
+
+-- each date from the second on, beside the one before it
+abbrev pub rises_at : ℕ → List ℕ → ℕ → Bool
+rises_at p b i = earlier (num (part (p + 4 * (i - 1)) 4 b)) (num (part (p + 4 * i) 4 b))
+
+rising_run : (p a n : ℕ) (b : List ℕ) → rising (dates_at (p + 4 * a) (suc n) b) ≡ list_all (rises_at p b) (range_with_len (a + 1) n)
+unfolding rising
+rising_run p a zero b =
+    ap rising (dates_suc (p + 4 * a) 1 0 b refl ∙ ap (λ (l : List ℕ). num (part (p + 4 * a) 4 b) ∷ l) (dates_none (p + 4 * a + 4) 0 b refl))
+rising_run p a (suc n) b =
+    let x = num (part (p + 4 * a) 4 b) in
+    let q = p + 4 * a + 4 in
+    let e : q ≡ p + 4 * (a + 1) = omega arith in
+    let g : p + 4 * a ≡ p + 4 * (a + 1 - 1) = omega arith in
+    let s = dates_suc q (suc n) n b refl in
+    ap rising (dates_suc (p + 4 * a) (suc (suc n)) (suc n) b refl ∙ ap (λ (l : List ℕ). x ∷ l) s)
+    ∙ both_is (earlier x (num (part q 4 b))) (rising (num (part q 4 b) ∷ dates_at (q + 4) n b))
+    ∙ ap₂ ◌&&◌ (ap₂ (λ (i j : ℕ). earlier (num (part i 4 b)) (num (part j 4 b))) g e)
+    (ap rising (sym s) ∙ ap (λ (k : ℕ). rising (dates_at k (suc n) b)) e ∙ rising_run p (a + 1) n b)
+
+pub dates_rise : (p n : ℕ) (b : List ℕ) → rising (dates_at p n b) ≡ list_all (rises_at p b) (range_with_len 1 (n - 1))
+unfolding rising
+dates_rise p zero b = ap rising (dates_none p 0 b refl)
+dates_rise p (suc n) b =
+    let e : p ≡ p + 4 * 0 = omega arith in
+    let g : n ≡ suc n - 1 = omega arith in
+    ap (λ (k : ℕ). rising (dates_at k (suc n) b)) e
+    ∙ rising_run p 0 n b
+    ∙ ap (λ (k : ℕ). list_all (rises_at p b) (range_with_len 1 k)) g
+
+module _ (x : List ℕ) (p : ℕ) (b : List ℕ) where
+  -- the record at place i has that name
+  abbrev pub named_at : ℕ → Bool
+  named_at i = same x (part (p + 1109 * i) 25 b)
+
+  pub place_run : (a n : ℕ) → find named_at (range_with_len a n) ≡ place_from a x (customers_at (p + 1109 * a) n b)
+  place_run a zero = sym (place_end a x (p + 1109 * a) 0 b refl)
+  place_run a (suc n) =
+      let e : p + 1109 * a + 1109 ≡ p + 1109 * (a + 1) = omega arith in
+      sym (place_step a x (p + 1109 * a) (suc n) n b refl
+      ∙ pick_is (named_at a) (Some a) (place_from (a + 1) x (customers_at (p + 1109 * a + 1109) n b))
+      ∙ ap (λ (r : Option ℕ). if named_at a then Some a else r)
+      (ap (λ (k : ℕ). place_from (a + 1) x (customers_at k n b)) e ∙ sym (place_run (a + 1) n)))
+
+  unknown_pick : (s t : Bool) (i : ℕ) (r : Option ℕ) → not t ≡ is_unknown r → not (s || t) ≡ is_unknown (pick s (Some i) r)
+  unfolding pick is_unknown
+  unknown_pick true t i r e = refl
+  unknown_pick false t i r e = e
+
+  pub unknown_run : (a n i : ℕ) → not (list_any named_at (range_with_len a n)) ≡ is_unknown (place_from i x (customers_at (p + 1109 * a) n b))
+  unfolding is_unknown
+  unknown_run a zero i = sym (ap is_unknown (place_end i x (p + 1109 * a) 0 b refl))
+  unknown_run a (suc n) i =
+      let e : p + 1109 * (a + 1) ≡ p + 1109 * a + 1109 = omega arith in
+      unknown_pick (named_at a) (list_any named_at (range_with_len (a + 1) n)) i
+      (place_from (i + 1) x (customers_at (p + 1109 * a + 1109) n b))
+      (unknown_run (a + 1) n (i + 1) ∙ ap (λ (k : ℕ). is_unknown (place_from (i + 1) x (customers_at k n b))) e)
+      ∙ sym (ap is_unknown (place_step i x (p + 1109 * a) (suc n) n b refl))
+
+pub records_run : (p a n m : ℕ) (b : List ℕ) → m ≡ a + n → p + 1109 * m ≤ length b
+    → ok_records n (p + 1109 * a) b ≡ list_all (λ (i : ℕ). ok_record (m - 1 - i) (p + 1109 * i) b) (range_with_len a n)
+unfolding ok_record
+records_run p a zero m b g h = sym (records_end (p + 1109 * a) 0 b refl)
+records_run p a (suc n) m b g h =
+    let e : p + 1109 * a + 1109 ≡ p + 1109 * (a + 1) = omega arith in
+    let k : n ≡ m - 1 - a = omega arith in
+    records_turn (p + 1109 * a) (suc n) n b refl (omega arith)
+    ∙ sym (both_assoc _ _ _)
+    ∙ both_is _ _
+    ∙ ap₂ ◌&&◌ (ap (λ (j : ℕ). ok_record j (p + 1109 * a) b) k)
+    (ap (λ (j : ℕ). ok_records n j b) e ∙ records_run p (a + 1) n m b (omega arith) h)

@@ -2,7 +2,7 @@
 -- Assumes nothing.
 use Rattle.std.specs.Prelude.{ℕ, zero, suc, ◌+◌, Bool, true, List, ◌++◌, map, eqb, leb, take, replicate}
 use Rattle.ground.specs.Choice.{both}
-use Rattle.ground.specs.Lists.{all}
+use Rattle.ground.specs.Lists.{all, part}
 use Rattle.codec.specs.Layout.{number, many, Value, dec}
 use Rattle.calendar.specs.Dates.{real_date}
 use Rattle.customer.specs.Customer.{sound_customer}
@@ -36,6 +36,12 @@ ok_header b = ok_head (dec header_shape 0 b)
 -- real dates, strictly rising
 unfoldable pub ok_dates : List ℕ → Bool
 ok_dates l = both (all real_date l) (rising l)
+
+-- a record at p with n records after it: it is written exactly, sound, and its name does not come again
+unfoldable pub ok_record : ℕ → ℕ → List ℕ → Bool
+ok_record n p b =
+    both (both (exact_at p b) (sound_customer (customer_at p b)))
+    (is_unknown (place_from 0 (part p 25 b) (customers_at (p + record_width) n b)))
 
 -- n records from p on: each is written exactly, sound, and its name does not come again
 unfoldable pub ok_records : ℕ → ℕ → List ℕ → Bool

@@ -15,10 +15,11 @@ ghost use Rattle.table.specs.Written.{settings_start, header_shape, header_to};
 ghost use Rattle.table.specs.Stored.{day_stored, seed_stored, customer_stored, customer_added, table_set_up, holidays_of};
 
 use crate::parts::{
-    SIZE, count_customers, count_holidays, customers_start, dates_at, find_from, store_dates,
+    SIZE, count_customers, count_holidays, customers_start, date_in, dates_at, find_from,
+    store_dates,
 };
 
-#[derive(Drop)]
+#[derive(Clone, Copy, Debug, PartialEq, Eq)]
 pub struct Holidays {
     pub count: u32,
     pub dates: [u32; 200],
@@ -28,25 +29,12 @@ pub struct Holidays {
 pub fn is_table(t: &[u8]) -> bool
     ensures { result ≡ is_table t.now }
 {
-    if t.len() != SIZE {
-        return false;
-    }
-    if !tests::is_header(t) {
-        return false;
-    }
-    let d = calendar::Date {
-        yymmdd: codec::read4(t, 4),
-    };
-    if !d.is_real() {
-        return false;
-    }
-    if !customer::is_sound_settings(customer_bytes::settings_at(t, 24)) {
-        return false;
-    }
-    if !tests::are_dates(t, 82, count_holidays(t)) {
-        return false;
-    }
-    tests::are_customers(t, customers_start(t), count_customers(t))
+    t.len() == SIZE
+        && tests::is_header(t)
+        && date_in(t, 4).is_real()
+        && customer::is_sound_settings(customer_bytes::settings_at(t, 24))
+        && tests::are_dates(t, 82, count_holidays(t))
+        && tests::are_customers(t, customers_start(t), count_customers(t))
 }
 
 // The table's day.
@@ -56,9 +44,7 @@ pub fn day(t: &[u8]) -> calendar::Date
     if t.len() != SIZE {
         return calendar::Date { yymmdd: 0 };
     }
-    calendar::Date {
-        yymmdd: codec::read4(t, 4),
-    }
+    date_in(t, 4)
 }
 
 // The bank's settings.
@@ -78,14 +64,13 @@ pub fn holidays_in(t: &[u8]) -> Holidays
     if t.len() != SIZE {
         return Holidays {
             count: 0,
-            dates: [0u32; 200],
+            dates: [0; 200],
         };
     }
     let n = count_holidays(t);
-    let dates = dates_at(t, 82, n);
     Holidays {
         count: n as u32,
-        dates: dates,
+        dates: dates_at(t, 82, n),
     }
 }
 
@@ -113,27 +98,20 @@ pub fn find(t: &[u8], who: [u8; 25]) -> Option<usize>
 pub fn load(t: &[u8], i: usize) -> customer::Customer
     ensures { result ≡ customer_in (table_of t.now) i }
 {
-    if t.len() != SIZE {
-        return customer_bytes::load_at(t, t.len());
+    if t.len() == SIZE && i < count_customers(t) {
+        return customer_bytes::load_at(t, customers_start(t) + 1109 * i);
     }
-    if count_customers(t) <= i {
-        return customer_bytes::load_at(t, t.len());
-    }
-    customer_bytes::load_at(t, customers_start(t) + 1109 * i)
+    customer_bytes::load_at(t, t.len())
 }
 
 // Another record for the customer at a place.
 pub fn store(t: &mut [u8], i: usize, c: customer::Customer)
     ensures { t.new ≡ customer_stored t.old i c }
 {
-    if t.len() != SIZE {
-        return;
+    if t.len() == SIZE && i < count_customers(t) {
+        let start = customers_start(t);
+        customer_bytes::store_at(t, start + 1109 * i, c);
     }
-    if count_customers(t) <= i {
-        return;
-    }
-    let start = customers_start(t);
-    customer_bytes::store_at(t, start + 1109 * i, c);
 }
 
 // One customer more, where there is room.
@@ -144,7 +122,7 @@ pub fn add(t: &mut [u8], c: customer::Customer)
         return;
     }
     let n = count_customers(t);
-    if 32 <= n {
+    if n >= 32 {
         return;
     }
     let start = customers_start(t);
@@ -157,20 +135,18 @@ pub fn add(t: &mut [u8], c: customer::Customer)
 pub fn store_day(t: &mut [u8], d: calendar::Date)
     ensures { t.new ≡ day_stored t.old d.yymmdd }
 {
-    if t.len() != SIZE {
-        return;
+    if t.len() == SIZE {
+        codec::write4(t, 4, d.yymmdd);
     }
-    codec::write4(t, 4, d.yymmdd);
 }
 
 // Another seed of the key maker.
 pub fn store_seed(t: &mut [u8], v: u64)
     ensures { t.new ≡ seed_stored t.old v }
 {
-    if t.len() != SIZE {
-        return;
+    if t.len() == SIZE {
+        codec::write8(t, 74, v);
     }
-    codec::write8(t, 74, v);
 }
 
 // The header of a table without customers.
@@ -178,24 +154,24 @@ fn store_header(t: &mut [u8], day: u32, holidays: u32)
     requires { (settings_start ≤ length t.old) × (holidays ≤ 200) }
     ensures { t.new ≡ splice 0 (enc header_shape (header_to day holidays 0)) t.old }
 {
-    let start = (82 + 4 * holidays) as u64;
-    let row = [start, day as u64, holidays as u64, 82, 0, start];
-    codec::write_row(t, 0, &[4, 4, 4, 4, 4, 4], &row);
+    let start = 82 + 4 * holidays;
+    codec::write4(t, 0, start);
+    codec::write4(t, 4, day);
+    codec::write4(t, 8, holidays);
+    codec::write4(t, 12, 82);
+    codec::write4(t, 16, 0);
+    codec::write4(t, 20, start);
 }
 
 // A new table without customers.
 pub fn set_up(t: &mut [u8], day: calendar::Date, s: customer::Settings, holidays: &[u32])
     ensures { t.new ≡ table_set_up t.old day.yymmdd s holidays.now }
 {
-    if t.len() != SIZE {
-        return;
+    if t.len() == SIZE && holidays.len() <= 200 {
+        store_header(t, day.yymmdd, holidays.len() as u32);
+        customer_bytes::store_settings(t, 24, s);
+        store_dates(t, 82, holidays);
     }
-    if 200 < holidays.len() {
-        return;
-    }
-    store_header(t, day.yymmdd, holidays.len() as u32);
-    customer_bytes::store_settings(t, 24, s);
-    store_dates(t, 82, holidays);
 }
 
 /// The customer with that identity and qualifier; where there is none, the one of all-zero bytes.

@@ -7,12 +7,12 @@ pub returns : goal.returns
 unfolding session_of dec width
 returns c =
     λ i. record {
-      suo = c.suo_in-suo.ensures i;
-      once = c.key_in-once.ensures i;
+      suo = c.suo_in.ensures i;
+      once = c.key_in.ensures i;
       running = record {
-        start = c.state_at-start.ensures i;
-        solid = c.state_at-solid.ensures i;
+        start = c.state_at.ensures i;
+        solid = c.state_at-2.ensures i;
         last =
-            c.state_at-last.ensures i;
+            c.state_at-3.ensures i;
       };
     }

@@ -5,23 +5,21 @@ use Rattle.session_bytes.specs.Names.{extent_numbered}
 use Rattle.session_bytes.proofs.Fields.{extent_rest}
 use Rattle.session_bytes.proofs.extent_numbered.Goals as goal
 
-pub returns-then-n-eq0 : goal.returns-then-n-eq0
+pub returns-in-0 : goal.returns-in-0
 unfolding extent_numbered
-returns-then-n-eq0 c = sym (ap extent_numbered c.if-n-eq0.true)
+returns-in-0 c = sym (ap extent_numbered c.in-0.is)
 
-pub returns-then-n-eq1 : goal.returns-then-n-eq1
+pub returns-in-1 : goal.returns-in-1
 unfolding extent_numbered
-returns-then-n-eq1 c = sym (ap extent_numbered c.if-n-eq1.true)
+returns-in-1 c = sym (ap extent_numbered c.in-1.is)
 
-pub returns-then-n-eq2 : goal.returns-then-n-eq2
+pub returns-in-2 : goal.returns-in-2
 unfolding extent_numbered
-returns-then-n-eq2 c = sym (ap extent_numbered c.if-n-eq2.true)
+returns-in-2 c = sym (ap extent_numbered c.in-2.is)
 
-pub returns-then-n-eq3 : goal.returns-then-n-eq3
+pub returns-in-3 : goal.returns-in-3
 unfolding extent_numbered
-returns-then-n-eq3 c = sym (ap extent_numbered c.if-n-eq3.true)
+returns-in-3 c = sym (ap extent_numbered c.in-3.is)
 
-pub returns : goal.returns
-returns c =
-    sym (extent_rest c.args.n
-    (omega (arith, c.if-n-eq0.false, c.if-n-eq1.false, c.if-n-eq2.false, c.if-n-eq3.false)))
+pub returns-in_default : goal.returns-in_default
+returns-in_default c = sym (extent_rest c.args.n (omega arith))

@@ -5,39 +5,29 @@ use Rattle.session_bytes.specs.Names.{place_numbered}
 use Rattle.session_bytes.proofs.Fields.{place_rest}
 use Rattle.session_bytes.proofs.place_numbered.Goals as goal
 
-pub returns-then-n-eq0 : goal.returns-then-n-eq0
+pub returns-in-0 : goal.returns-in-0
 unfolding place_numbered
-returns-then-n-eq0 c = sym (ap place_numbered c.if-n-eq0.true)
+returns-in-0 c = sym (ap place_numbered c.in-0.is)
 
-pub returns-then-n-eq1 : goal.returns-then-n-eq1
+pub returns-in-1 : goal.returns-in-1
 unfolding place_numbered
-returns-then-n-eq1 c = sym (ap place_numbered c.if-n-eq1.true)
+returns-in-1 c = sym (ap place_numbered c.in-1.is)
 
-pub returns-then-n-eq2 : goal.returns-then-n-eq2
+pub returns-in-2 : goal.returns-in-2
 unfolding place_numbered
-returns-then-n-eq2 c = sym (ap place_numbered c.if-n-eq2.true)
+returns-in-2 c = sym (ap place_numbered c.in-2.is)
 
-pub returns-then-n-eq3 : goal.returns-then-n-eq3
+pub returns-in-3 : goal.returns-in-3
 unfolding place_numbered
-returns-then-n-eq3 c = sym (ap place_numbered c.if-n-eq3.true)
+returns-in-3 c = sym (ap place_numbered c.in-3.is)
 
-pub returns-then-n-eq4 : goal.returns-then-n-eq4
+pub returns-in-4 : goal.returns-in-4
 unfolding place_numbered
-returns-then-n-eq4 c = sym (ap place_numbered c.if-n-eq4.true)
+returns-in-4 c = sym (ap place_numbered c.in-4.is)
 
-pub returns-then-n-eq5 : goal.returns-then-n-eq5
+pub returns-in-5 : goal.returns-in-5
 unfolding place_numbered
-returns-then-n-eq5 c = sym (ap place_numbered c.if-n-eq5.true)
+returns-in-5 c = sym (ap place_numbered c.in-5.is)
 
-pub returns : goal.returns
-returns c =
-    sym (place_rest c.args.n
-    (omega (
-      arith,
-      c.if-n-eq0.false,
-      c.if-n-eq1.false,
-      c.if-n-eq2.false,
-      c.if-n-eq3.false,
-      c.if-n-eq4.false,
-      c.if-n-eq5.false,
-    )))
+pub returns-in_default : goal.returns-in_default
+returns-in_default c = sym (place_rest c.args.n (omega arith))

@@ -8,4 +8,4 @@ pub returns-then-t-ne-SIZE : goal.returns-then-t-ne-SIZE
 returns-then-t-ne-SIZE c = sym (ap (λ (t : Table). t.day) (table_other _ c.if-t-ne-SIZE.true))
 
 pub returns : goal.returns
-returns c = c.read4.ensures ∙ sym (ap (λ (t : Table). t.day) (table_sized _ c.if-t-ne-SIZE.false))
+returns c = c.date_in.ensures ∙ sym (ap (λ (t : Table). t.day) (table_sized _ c.if-t-ne-SIZE.false))

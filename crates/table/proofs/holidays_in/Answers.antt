@@ -20,6 +20,6 @@ returns c =
     let n = c.count_holidays-n.ensures.0 in
     let k : c.count_holidays-n.result ≡ length (dates_at holidays_start c.count_holidays-n.result b) =
     sym (dates_length holidays_start _ b) in
-    (λ i. record { count = k i; dates = c.dates_at-dates.ensures i })
+    (λ i. record { count = k i; dates = c.dates_at.ensures i })
     ∙ ap (λ (m : ℕ). record { count = length (dates_at holidays_start m b); dates = filled (dates_at holidays_start m b) }) n
     ∙ sym (ap holidays_of (table_sized b c.if-t-ne-SIZE.false))

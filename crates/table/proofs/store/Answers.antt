@@ -8,24 +8,24 @@ use Rattle.splices.specs.Bytes.{put}
 use Rattle.customer_bytes.specs.Layout.{customer_bytes}
 use Rattle.table.specs.Decode.{customer_count}
 use Rattle.table.specs.Stored.{customer_stored}
+use Rattle.table.proofs.store.Goals.{else-t-eq-SIZE-via-then-t-eq-SIZE+else-i-count_customers, else-t-eq-SIZE-via-else-t-eq-SIZE}
 use Rattle.table.proofs.store.Goals as goal
 
-pub returns-then-t-ne-SIZE : goal.returns-then-t-ne-SIZE
+pub returns-then-i-count_customers : goal.returns-then-i-count_customers
 unfolding customer_stored
-returns-then-t-ne-SIZE c = sym (skips _ _ _ (fails_left _ _ (ne_eqb _ _ c.if-t-ne-SIZE.true)))
-
-pub returns-then-count_customers-i : goal.returns-then-count_customers-i
-unfolding customer_stored
-returns-then-count_customers-i c =
-    let a = c.args in
-    sym (skips _ _ _ (fails_right _ _
-    (le-ltb a.i (customer_count a.t.now) (omega (arith, c.count_customers.ensures.0, c.if-count_customers-i.true)))))
-
-pub returns : goal.returns
-unfolding customer_stored
-returns c =
+returns-then-i-count_customers c =
     let a = c.args in
     c.store_at.ensures
     ∙ ap (λ (p : ℕ). put (p + 1109 * a.i) (customer_bytes a.c) a.t.now) c.customers_start-start.ensures.0
-    ∙ sym (picks _ _ _ (join _ _ (eq-eqb _ _ c.if-t-ne-SIZE.false)
-    (lt-ltb a.i (customer_count a.t.now) (omega (arith, c.count_customers.ensures.0, c.if-count_customers-i.false)))))
+    ∙ sym (picks _ _ _ (join _ _ (eq-eqb _ _ c.if-t-eq-SIZE.true)
+    (lt-ltb a.i (customer_count a.t.now) (omega (arith, c.count_customers.ensures.0, c.if-i-count_customers.true)))))
+
+pub returns-else-t-eq-SIZE : goal.returns-else-t-eq-SIZE
+unfolding customer_stored
+returns-else-t-eq-SIZE c =
+    let a = c.args in
+    elim c.else-t-eq-SIZE.branch [
+      | else-t-eq-SIZE-via-then-t-eq-SIZE+else-i-count_customers w ↦ sym (skips _ _ _ (fails_right _ _
+          (le-ltb a.i (customer_count a.t.now) (omega (arith, w.count_customers.ensures.0, w.if-i-count_customers.false)))))
+      | else-t-eq-SIZE-via-else-t-eq-SIZE w ↦ sym (skips _ _ _ (fails_left _ _ (ne_eqb _ _ w.if-t-eq-SIZE.false)))
+    ]

@@ -7,11 +7,11 @@ use native.Mathlib.Omega.{arith}
 use Rattle.table.proofs.Stores.{splice-put}
 use Rattle.table.proofs.store_seed.Goals as goal
 
-pub returns-then-t-ne-SIZE : goal.returns-then-t-ne-SIZE
+pub returns-else-t-eq-SIZE : goal.returns-else-t-eq-SIZE
 unfolding seed_stored
-returns-then-t-ne-SIZE c = sym (skips _ _ _ (ne_eqb _ _ c.if-t-ne-SIZE.true))
+returns-else-t-eq-SIZE c = sym (skips _ _ _ (ne_eqb _ _ c.if-t-eq-SIZE.false))
 
-pub returns : goal.returns
+pub returns-then-t-eq-SIZE : goal.returns-then-t-eq-SIZE
 unfolding seed_stored
-returns c = c.write8.ensures ∙ splice-put 8 74 _ _ (omega (arith, c.if-t-ne-SIZE.false))
-    ∙ sym (picks _ _ _ (eq-eqb _ _ c.if-t-ne-SIZE.false))
+returns-then-t-eq-SIZE c = c.write8.ensures ∙ splice-put 8 74 _ _ (omega (arith, c.if-t-eq-SIZE.true))
+    ∙ sym (picks _ _ _ (eq-eqb _ _ c.if-t-eq-SIZE.true))

@@ -2,9 +2,10 @@
 use mathlib.Core.Path.{ap, ◌∙◌}
 use Prim.Native.Nat.{min}
 use native.Mathlib.Omega.{arith}
+use Rattle.std.proofs.Math.Nat.{min_comm}
 use Rattle.codec.specs.Layout.{width, dec}
 use Rattle.table.proofs.parts.count_customers.Goals as goal
 
 pub returns : goal.returns
 unfolding dec width
-returns c = (c.at_most.ensures ∙ ap (min 32) c.read4.ensures, omega (arith, c.at_most.ensures))
+returns c = (c.min.ensures ∙ min_comm _ 32 ∙ ap (min 32) c.read4.ensures, omega (arith, c.min.ensures))

@@ -1,5 +1,4 @@
 -- The dates passed are in the array, and the room after them is zero.
-use Prim.Native.Nat.{◌-◌}
 use native.Mathlib.Omega.{arith}
 use Rattle.table.proofs.Filled.{some_none, some_more, some_all}
 use Rattle.table.proofs.parts.dates_at.Goals as goal

@@ -1,36 +1,26 @@
--- The customers from place i on decide: each turn compares one name.
-use mathlib.Core.Path.{sym, ◌∙◌}
-use Prim.Native.Nat.{◌+◌, ◌-◌}
-use native.Mathlib.Nat.{sub-zero}
-use native.Mathlib.Omega.{arith}
-use Rattle.ground.proofs.Choices.{picks, skips}
+-- The first customer with that name.
+use mathlib.Core.Path.{◌≡◌, refl, ap, ◌∙◌}
+use Prim.Native.Nat.{ℕ, ◌+◌, ◌*◌}
+use Rattle.std.specs.Prelude.{Option, None, Some}
+use Rattle.std.specs.Option.{option_map}
+use Rattle.std.proofs.Common.{arith, rules, tests}
+use Rattle.std.proofs.lemmas.Iterator.{YieldsList-from_range}
+use Rattle.std.proofs.lemmas.Iterator.Search.{find_from_yields_List}
+use Rattle.table.specs.Table.{place_from}
+use Rattle.table.specs.Tests.{customers_at}
 use Rattle.table.proofs.Turns
 use Rattle.table.proofs.parts.find_from.Goals as goal
 
-pub loop-i-init : goal.loop-i-init
-loop-i-init c = (omega arith, omega arith, rw sub-zero)
-
-pub returns-then-same_at : goal.returns-then-same_at
-returns-then-same_at c =
-    let l = c.loop-i in
-    let a = c.args in
-    sym (l.invariant.2
-    ∙ Turns.place_step l.i a.who l.p (a.n - l.i) (a.n - (l.i + 1)) a.t.now (omega arith)
-    ∙ picks _ _ _ (sym c.same_at.ensures ∙ c.if-same_at.true))
-
-pub loop-i-preserved : goal.loop-i-preserved
-loop-i-preserved c =
-    let l = c.loop-i in
-    let a = c.args in (
-      omega arith,
-      omega arith,
-      l.invariant.2
-          ∙ Turns.place_step l.i a.who l.p (a.n - l.i) (a.n - (l.i + 1)) a.t.now (omega arith)
-          ∙ skips _ _ _ (sym c.same_at.ensures ∙ c.if-same_at.false),
-    )
+as_found : (r : Option ℕ) → r ≡ option_map (λ (x : ℕ). x) r
+as_found None = refl
+as_found (Some x) = refl
 
 pub returns : goal.returns
 returns c =
-    let l = c.loop-i in
     let a = c.args in
-    sym (l.invariant.2 ∙ Turns.place_end l.i a.who l.p (a.n - l.i) a.t.now (omega arith))
+    let e : a.at + 1109 * 0 ≡ a.at = omega arith in
+    as_found c.find.result
+    ∙ find_from_yields_List (Turns.named_at a.who a.at a.t.now) _ _ c.find.result c.find.ensures.ran
+    (YieldsList-from_range 0 a.n a.n refl (omega arith)) (λ x b q k. search (rules, tests))
+    ∙ Turns.place_run a.who a.at a.t.now 0 a.n
+    ∙ ap (λ (k : ℕ). place_from 0 a.who (customers_at k a.n a.t.now)) e
