@@ -9,7 +9,7 @@ unfolding letters
 returns-then-is_accepted c = sym (picks _ (letters "K") (letters "E") (sym c.is_accepted.ensures
     ∙ c.if-is_accepted.true))
 
-pub returns : goal.returns
+pub returns-else-is_accepted : goal.returns-else-is_accepted
 unfolding letters
-returns c = sym (skips _ (letters "K") (letters "E") (sym c.is_accepted.ensures
+returns-else-is_accepted c = sym (skips _ (letters "K") (letters "E") (sym c.is_accepted.ensures
     ∙ c.if-is_accepted.false))
