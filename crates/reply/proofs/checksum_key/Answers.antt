@@ -10,12 +10,11 @@ pub returns-then-a : goal.returns-then-a
 unfolding checksum_key
 returns-then-a c = sym (picks _ _ _ c.if-a.true)
 
-pub returns-in-None : goal.returns-in-None
+pub returns-in_err-key : goal.returns-in_err-key
 unfolding checksum_key summed
-returns-in-None c = rw (skips _ _ _ c.if-a.false, c.in-None.is)
+returns-in_err-key c = rw (c.from_residual.ensures, skips _ _ _ c.if-a.false, c.in_err-key.was)
 
-pub returns-in-Some : goal.returns-in-Some
+pub returns : goal.returns
 unfolding checksum_key summed
-returns-in-Some c =
-    rw (skips _ _ _ c.if-a.false, c.in-Some.is)
-    (ap Some (c.checksum.ensures ∙ sum_first _ _))
+returns c =
+    rw (skips _ _ _ c.if-a.false, c.in_ok-key.was) (ap Some (c.checksum.ensures ∙ sum_first _ _))

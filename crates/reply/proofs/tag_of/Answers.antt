@@ -9,6 +9,6 @@ pub returns-then-pte : goal.returns-then-pte
 unfolding letters
 returns-then-pte c = ap (λ x. x ++ letters "120") (sym (picks _ (letters ">>PTE317") (letters ">>ESI237") c.if-pte.true))
 
-pub returns : goal.returns
+pub returns-else-pte : goal.returns-else-pte
 unfolding letters
-returns c = ap (λ x. x ++ letters "120") (sym (skips _ (letters ">>PTE317") (letters ">>ESI237") c.if-pte.false))
+returns-else-pte c = ap (λ x. x ++ letters "120") (sym (skips _ (letters ">>PTE317") (letters ">>ESI237") c.if-pte.false))
