@@ -49,6 +49,7 @@ fn full_answer(
 {
     let customer::Settings { bank, software, .. } = table::settings(t);
     let c = checks::customer_of(t, m);
+    let generation = message::working_generation(m);
     reply::Answering {
         pte,
         bare: false,
@@ -60,7 +61,7 @@ fn full_answer(
         software,
         message: m,
         closing,
-        working: changeover::held(c.working, message::working_generation(m)),
+        working: changeover::held(c.working, generation),
         transport: changeover::held(c.transport, message::transport_generation(m)),
         enclosed: out.enclosed,
     }

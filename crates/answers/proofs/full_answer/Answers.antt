@@ -9,7 +9,7 @@ returns c =
       c.no_contents.ensures,
       c.settings.ensures,
       c.held.ensures,
-      c.working_generation.ensures,
+      c.working_generation-generation.ensures,
       c.held-2.ensures,
       c.transport_generation.ensures,
       c.customer_of-c.ensures,
