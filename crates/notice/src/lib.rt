@@ -37,6 +37,7 @@ pub fn is_accepted(code: u32) -> bool
 }
 
 // K or E.
+#[tactic(auto, unfolding(ground::specs::Choice::pick, text::specs::Letters::letters))]
 pub fn success(code: u32) -> [u8; 1]
     ensures { result ≡ pick (code_in code codes).accepted (letters "K") (letters "E") }
 {
@@ -59,6 +60,7 @@ fn name_of(field: u32) -> &'static [u8]
 }
 
 // A byte as it is shown.
+#[tactic(auto, unfolding(crate::specs::Codes::shown_byte, ground::specs::Choice::between, ground::specs::Choice::both, ground::specs::Choice::pick))]
 fn shown_byte(b: u8) -> u8
     ensures { result ≡ shown_byte b }
 {

@@ -47,6 +47,7 @@ fn digits<const N: usize>(x: u32) -> [u8; N]
 }
 
 // Fields 1 to 3.
+#[tactic(auto, unfolding(ground::specs::Choice::pick, text::specs::Letters::letters))]
 fn tag_of(pte: bool) -> [u8; 11]
     ensures { result ≡ pick pte (letters ">>PTE317") (letters ">>ESI237") ++ letters "120" }
 {
@@ -118,6 +119,7 @@ fn checksum_key(a: &Answering, written: &[u8]) -> Option<u64>
     Some(digest::checksum(key, written))
 }
 
+#[tactic(auto, unfolding(crate::specs::Reply::enclosed_key, crate::specs::Reply::sealed, ground::specs::Choice::pick))]
 fn enclosed_key(a: &Answering) -> Option<u64>
     ensures { result ≡ enclosed_key a.now }
 {
@@ -130,6 +132,7 @@ fn enclosed_key(a: &Answering) -> Option<u64>
 }
 
 // Sixteen hex digits of a key's number, or blanks.
+#[tactic(auto, unfolding(crate::specs::Reply::hex_or))]
 fn hex_or(key: Option<u64>) -> [u8; 16]
     ensures { result ≡ hex_or key }
 {
@@ -140,6 +143,7 @@ fn hex_or(key: Option<u64>) -> [u8; 16]
 }
 
 // Whether a key is enclosed.
+#[tactic(auto, unfolding(crate::specs::Reply::sealed_flag, text::specs::Letters::letters))]
 fn flag(key: Option<u64>) -> [u8; 1]
     ensures { result ≡ sealed_flag key }
 {
@@ -174,6 +178,7 @@ fn put_notice(out: &mut Reply, a: &Answering)
 }
 
 // Field 21 of a PTE.
+#[tactic(auto, unfolding(ground::specs::Choice::pick))]
 fn put_receipt(out: &mut Reply, a: &Answering)
     requires { array_vec_len out.old + 80 ≤ 317 }
     ensures { out.new.items ≡ out.old.items ++ pick a.now.pte (replicate 80 blank) [] }
