@@ -86,6 +86,7 @@ pub fn put<const N: usize>(out: &mut ArrayVec<u8, N>, part: &[u8])
 }
 
 // The field's name, where the code names one.
+#[tactic(auto, using(crate::proofs::Texts::name_length), unfolding(ground::specs::Choice::pick))]
 fn put_name(said: &mut Said, row: CodeRow, field: u32)
     requires { array_vec_len said.old + pick row.names 15 0 ≤ 53 }
     ensures items { said.new.items ≡ said.old.items ++ pick row.names (field_name field) [] }

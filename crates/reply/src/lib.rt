@@ -96,6 +96,7 @@ fn put_bare(out: &mut Reply, a: &Answering)
     put(out, &[b' '; 42]);
 }
 
+#[tactic(auto, unfolding(ground::specs::Choice::pick))]
 fn put_body(out: &mut Reply, a: &Answering)
     requires { array_vec_len out.old + 109 ≤ 317 }
     ensures items { out.new.items ≡ out.old.items ++ joined (body_fields a.now) }
@@ -109,6 +110,7 @@ fn put_body(out: &mut Reply, a: &Answering)
 }
 
 // The checksum of the characters before it.
+#[tactic(auto, using(crate::proofs::Keys::sum_first), unfolding(crate::specs::Reply::checksum_key, crate::specs::Reply::summed, ground::specs::Choice::pick))]
 fn checksum_key(a: &Answering, written: &[u8]) -> Option<u64>
     ensures { result ≡ checksum_key a.now (take 144 written.now) }
 {
@@ -154,6 +156,7 @@ fn flag(key: Option<u64>) -> [u8; 1]
 }
 
 // HH:MM:SS and a blank.
+#[tactic(auto, unfolding(crate::specs::Reply::clock_text, text::specs::Letters::letters))]
 fn put_clock(out: &mut Reply, time: u32)
     requires { array_vec_len out.old + 9 ≤ 317 }
     ensures items { out.new.items ≡ out.old.items ++ (clock_text time ++ letters " ") }
