@@ -1,72 +1,23 @@
--- An answer made of what the calls give is the definition's.
-use Rattle.std.specs.Prelude.{None, Option}
+-- What the answers to a verdict keep, and that of the message at fault the field alone counts.
 use Prim.Native.Nat.{ℕ}
 use mathlib.Core.Path.{◌≡◌, refl}
-use mathlib.Core.Bool.{Bool, true, false}
-use mathlib.Core.List.{List, []}
+use mathlib.Core.Bool.{Bool, false}
+use mathlib.Core.List.{List}
 use native.Mathlib.Omega.{arith}
-use lib.ListN.{length, take, replicate}
+use lib.ListN.{length, take}
 use lib.Seq.{take_all}
 use Rattle.ground.proofs.Choices.{skips}
 use Rattle.ground.proofs.Bools.{picked}
-use Rattle.customer.specs.declared.Customer.{Customer}
-use Rattle.customer.specs.declared.Settings.{Settings}
-use Rattle.changeover.specs.Held.{held_key}
 use Rattle.table.specs.Table.{Table}
-use Rattle.table.specs.Named.{named}
 use Rattle.message.specs.Layout.{field_text}
-use Rattle.message.specs.Contents.{contents_as, at_fault}
+use Rattle.message.specs.Contents.{at_fault}
 use Rattle.message.specs.declared.About.{About}
 use Rattle.message.specs.declared.About.TheVariants.{Answered, Closing}
-use Rattle.message.specs.declared.Contents.{Contents}
-use Rattle.message.specs.Fields.{sender_of, transport_generation_of, working_generation_of}
 use Rattle.verdict.specs.declared.Outcome.{Outcome}
 use Rattle.notice.specs.Codes.{code_in, codes}
 use Rattle.reply.specs.declared.Answering.{Answering}
 use Rattle.answers.specs.Answers.{bare_answer, full_answer, verdict_answer}
 use Rattle.opening.specs.declared.Opening.{Opening}
-
-module _ (t : Table) (o : Opening) (pte : Bool) {s : Settings} where
-  pub bare_made : (code field : ℕ) (m : List ℕ) {v : Contents} → v ≡ contents_as (field_text field m) → s ≡ t.settings
-      → record {
-        pte = pte;
-        bare = true;
-        code = code;
-        field = field;
-        contents = v;
-        time = o.time;
-        bank = s.bank;
-        software = s.software;
-        message = replicate 161 0;
-        closing = replicate 161 0;
-        working = None;
-        transport = None;
-        enclosed = None;
-      } ≡ bare_answer t o pte code field m
-  unfolding bare_answer
-  bare_made code field m f e = rw (f, e)
-
-  pub full_made : (out : Outcome) (m closing : List ℕ) {c : Customer} {wg tg : ℕ} {w k : Option ℕ} {v : Contents}
-      → s ≡ t.settings → c ≡ named t (sender_of m)
-      → wg ≡ working_generation_of m → w ≡ held_key c.working wg → tg ≡ transport_generation_of m → k ≡ held_key c.transport tg
-      → v ≡ contents_as []
-      → record {
-        pte = pte;
-        bare = false;
-        code = out.code;
-        field = out.field;
-        contents = v;
-        time = o.time;
-        bank = s.bank;
-        software = s.software;
-        message = m;
-        closing = closing;
-        working = w;
-        transport = k;
-        enclosed = out.enclosed;
-      } ≡ full_answer t o pte out m closing
-  unfolding full_answer
-  full_made out m closing es ec eg ew eh ek ev = rw (es, ew, ek, eg, eh, ec, ev)
 
 -- of the message at fault the field alone counts
 pub bare_alike : (t : Table) (o : Opening) (pte : Bool) (code field : ℕ) (a b : List ℕ) → field_text field a ≡ field_text field b

@@ -18,16 +18,13 @@ pub fn bare_answer(
 ) -> reply::Answering
     ensures { result ≡ bare_answer (table_of t.now) o pte code field (take count m) }
 {
-    let contents = message::field_contents(field, m, count);
-    let settings = table::settings(t);
-    let bank = settings.bank;
-    let software = settings.software;
+    let customer::Settings { bank, software, .. } = table::settings(t);
     reply::Answering {
         pte,
         bare: true,
         code,
         field,
-        contents,
+        contents: message::field_contents(field, m, count),
         time: o.time,
         bank,
         software,
@@ -50,31 +47,23 @@ fn full_answer(
 ) -> reply::Answering
     ensures { result ≡ full_answer (table_of t.now) o pte out m closing }
 {
-    let settings = table::settings(t);
-    let bank = settings.bank;
-    let software = settings.software;
+    let customer::Settings { bank, software, .. } = table::settings(t);
     let c = checks::customer_of(t, m);
-    let working_keys = c.working;
-    let transport_keys = c.transport;
     let generation = message::working_generation(m);
-    let working = changeover::held(working_keys, generation);
-    let transport = changeover::held(transport_keys, message::transport_generation(m));
-    let enclosed = out.enclosed;
-    let contents = message::no_contents();
     reply::Answering {
         pte,
         bare: false,
         code: out.code,
         field: out.field,
-        contents,
+        contents: message::no_contents(),
         time: o.time,
         bank,
         software,
         message: m,
         closing,
-        working,
-        transport,
-        enclosed,
+        working: changeover::held(c.working, generation),
+        transport: changeover::held(c.transport, message::transport_generation(m)),
+        enclosed: out.enclosed,
     }
 }
 
@@ -90,9 +79,9 @@ pub fn verdict_answer(
     ensures { result ≡ verdict_answer (table_of t.now) o pte out m closing }
 {
     if notice::is_bare(out.code) {
-        let about = out.about;
-        let faulty = message::at_fault(about, m, closing);
-        return bare_answer(t, o, pte, out.code, out.field, faulty, 161);
+        let faulty = message::at_fault(out.about, m, closing);
+        bare_answer(t, o, pte, out.code, out.field, faulty, 161)
+    } else {
+        full_answer(t, o, pte, out, m, closing)
     }
-    full_answer(t, o, pte, out, m, closing)
 }

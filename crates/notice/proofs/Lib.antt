@@ -1,5 +1,4 @@
 -- Laws that belong to no one function.
-pub mod Found
 pub mod Padding
 pub mod Rows
 pub mod Texts

@@ -1,13 +1,11 @@
 -- A text filled with blanks is its start and the rest filled with blanks, since blanks past the end are cut.
 -- Assumes nothing.
 use mathlib.Core.Path.{◌≡◌, refl, sym, ap, ◌∙◌}
-use mathlib.Core.List.{List, [], ◌∷◌, ◌++◌, append_assoc, append-nil}
-use Prim.Native.Nat.{ℕ, zero, suc, ◌+◌, ◌-◌, ◌≤◌}
+use mathlib.Core.List.{List, [], ◌∷◌, ◌++◌, append_assoc}
+use Prim.Native.Nat.{ℕ, zero, suc, ◌+◌, ◌≤◌}
 use native.Mathlib.Omega.{arith}
-use borrow.Rule.Slice.PartMut.{put_mid}
-use lib.ListN.{length, take, drop, replicate, length-drop, drop_of_length-le, replicate-append-replicate}
-use lib.Seq.{length-take-le, take_at, take-take, take-append-add}
-use Rattle.ground.specs.Lists.{overlay}
+use lib.ListN.{length, take, replicate}
+use lib.Seq.{take-append-add}
 use Rattle.text.specs.Characters.{blank, padded}
 
 -- as many blanks as the field is wide are enough
@@ -27,58 +25,3 @@ after k n v w e =
     ∙ ap (take (length v + n)) (append_assoc v w (replicate (k + n) blank))
     ∙ take-append-add v (w ++ replicate (k + n) blank) n
     ∙ ap (λ (r : List ℕ). v ++ r) (enough n (k + n) w (omega arith))
-
--- a text and another after it, each filled with blanks, are both filled with blanks
-pub joined_is : (size n : ℕ) (v w : List ℕ) → length v ≡ n → n ≤ size
-    → take n (padded size v) ++ take (size - n) (padded size w) ≡ padded size (v ++ w)
-unfolding padded
-joined_is size n v w e h =
-    let m : n + (size - n) ≡ size = omega arith in
-    ap (λ (r : List ℕ). r ++ take (size - n) (padded size w)) (take-take n size (v ++ replicate size blank) h
-    ∙ take_at v (replicate size blank) n e)
-    ∙ ap (λ (r : List ℕ). v ++ r) (take-take (size - n) size (w ++ replicate size blank) (omega arith)
-    ∙ enough (size - n) size w (omega arith))
-    ∙ sym (after n (size - n) v w e)
-    ∙ ap (λ (j : ℕ). padded j (v ++ w)) m
-
--- a text that was filled may be filled again
-pub filled_again : (size n : ℕ) (v : List ℕ) → length v ≤ n → padded size (padded n v) ≡ padded size v
-unfolding padded
-filled_again size n v h =
-    let m : length v + (n - length v) ≡ n = omega arith in
-    let k : ℕ = n - length v in
-    ap (padded size) (ap (λ (j : ℕ). take j (v ++ replicate n blank)) (sym m) ∙ take-append-add v (replicate n blank) k)
-    ∙ ap (λ (r : List ℕ). padded size (v ++ r)) (enough k n [] (omega arith) ∙ blanks k)
-    ∙ ap (take size) (append_assoc v (replicate k blank) (replicate size blank))
-    ∙ ap (λ (r : List ℕ). take size (v ++ r)) (replicate-append-replicate k size blank)
-    ∙ enough size (k + size) v (omega arith)
-  where
-    blanks : (j : ℕ) → take j (replicate j blank) ≡ replicate j blank
-    blanks zero = refl
-    blanks (suc j) = ap (λ (t : List ℕ). blank ∷ t) (blanks j)
-
--- the same of lists that are known to be so filled
-pub join_filled : (size k : ℕ) (v w start more r : List ℕ) → length v ≤ size → k ≡ length v → start ≡ padded size v → more ≡ padded size w
-    → r ≡ take k start ++ take (size - k) more → r ≡ padded size (v ++ w)
-join_filled size k v w start more r h f p q e =
-    e
-    ∙ ap (λ (s : List ℕ). take k s ++ take (size - k) more) p
-    ∙ ap (λ (s : List ℕ). take k (padded size v) ++ take (size - k) s) q
-    ∙ joined_is size k v w (sym f) (omega arith)
-
--- the rest of a list that is lent for another comes back as the start of that
-pub lent_rest : (size n : ℕ) (start more rest : List ℕ) → length start ≡ size → length more ≡ size → n ≤ size
-    → rest ≡ overlay more (take (size - n) (drop n start)) → put_mid n (size - n) start rest ≡ take n start ++ take (size - n) more
-unfolding overlay
-lent_rest size n start more rest p q h e =
-    let k : ℕ = size - n in
-    let d : List ℕ = take k (drop n start) in
-    let f : length (drop n start) ≡ k = length-drop n start ∙ ap (λ (j : ℕ). j - n) p in
-    let g : length d ≡ k = length-take-le k (drop n start) (omega arith) in
-    ap (λ (x : List ℕ). put_mid n k start x)
-    (e
-    ∙ ap (λ (j : ℕ). take j more ++ drop (length more) d) g
-    ∙ ap (λ (x : List ℕ). take k more ++ x) (drop_of_length-le d {i = length more} (omega arith))
-    ∙ append-nil (take k more))
-    ∙ ap (λ (x : List ℕ). take n start ++ (take k more ++ x)) (drop_of_length-le (drop n start) {i = k} (omega arith))
-    ∙ ap (λ (x : List ℕ). take n start ++ x) (append-nil (take k more))

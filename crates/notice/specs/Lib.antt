@@ -1,3 +1,3 @@
 -- What the contracts of `notice` cite.
 pub mod Codes
-pub mod Places
+pub mod Rows

@@ -2,197 +2,131 @@
 
 #![tactic(auto)]
 
-ghost use Rattle.std.specs.Prelude.{◌≡◌, [], ◌++◌, map, ◌+◌, ◌-◌, ◌<◌, ◌≤◌, min, length, take};
+ghost use Rattle.std.specs.Prelude.{◌≡◌, [], ◌++◌, ◌+◌, ◌≤◌, map, length};
+ghost use Rattle.arrayvec.specs.ArrayVec.{array_vec_len};
 ghost use Rattle.ground.specs.Choice.{pick};
-ghost use Rattle.ground.specs.Lists.{part};
 ghost use Rattle.text.specs.Characters.{padded};
 ghost use Rattle.text.specs.Letters.{letters};
 ghost use Rattle.message.specs.Contents.{held_in};
 ghost use Rattle.notice.specs.Codes.{code_in, codes, field_name, shown_byte, value_text, text_of};
-ghost use Rattle.notice.specs.Places.{place_in, code_numbers, field_numbers};
+ghost use Rattle.notice.specs.Rows.{code_of};
 
 mod tables;
 
-// The place of a number in a table of numbers, or the table's length where it is not listed.
-fn place_of(numbers: &[u32], n: u32) -> usize
-    ensures { result ≡ place_in n numbers.now }
-{
-    let mut i = 0;
-    while i < numbers.len() {
-        if numbers[i] == n {
-            return i;
-        }
-        i += 1;
-    }
-    i
-}
+use arrayvec::ArrayVec;
+use tables::CodeRow;
 
-fn code_place(code: u32) -> usize
-    ensures { (result ≡ place_in code code_numbers) × (result < 29) }
-{
-    place_of(&tables::CODES, code)
-}
+// A text on its way into the notice, with room for the longest.
+type Said = ArrayVec<u8, 53>;
 
-fn field_place(field: u32) -> usize
-    ensures { (result ≡ place_in field field_numbers) × (result < 29) }
+// The row of a code. A number that is no code has no text, is refused and bare.
+fn row_of(code: u32) -> CodeRow
+    ensures { code_of result ≡ code_in code codes }
 {
-    place_of(&tables::FIELDS, field)
+    tables::CODES
+        .iter()
+        .find(|row| row.code == code)
+        .copied()
+        .unwrap_or(tables::BARE)
 }
 
 pub fn is_accepted(code: u32) -> bool
     ensures { result ≡ (code_in code codes).accepted }
 {
-    let i = code_place(code);
-    tables::SUCCESS[i] == b'K'
+    row_of(code).accepted
 }
 
 // K or E.
+#[tactic(auto, unfolding(ground::specs::Choice::pick, text::specs::Letters::letters))]
 pub fn success(code: u32) -> [u8; 1]
     ensures { result ≡ pick (code_in code codes).accepted (letters "K") (letters "E") }
 {
-    if is_accepted(code) {
-        return *b"K";
-    }
-    *b"E"
+    if is_accepted(code) { *b"K" } else { *b"E" }
 }
 
 pub fn is_bare(code: u32) -> bool
     ensures { result ≡ (code_in code codes).bare }
 {
-    let i = code_place(code);
-    tables::FORMS[i] == b'B'
+    row_of(code).bare
 }
 
-fn names_field(code: u32) -> bool
-    ensures { result ≡ (code_in code codes).names }
+fn name_of(field: u32) -> &'static [u8]
+    ensures { result.now ≡ field_name field }
 {
-    let i = code_place(code);
-    tables::NAMING[i] == b'N'
-}
-
-// Whether a code shows the field's contents.
-fn shows_contents(code: u32) -> bool
-    ensures { result ≡ (code_in code codes).shows }
-{
-    let i = code_place(code);
-    tables::SHOWING[i] == b'V'
-}
-
-// A row of a table of characters, and blanks after it.
-fn row(table: &[u8], at: usize, width: usize) -> [u8; 51]
-    requires { at + width ≤ length table.now }
-    ensures { result ≡ padded 51 (part at width table.now) }
-{
-    let end = at + width;
-    let mut out = [b' '; 51];
-    text::copy(&mut out, &table[at..end]);
-    out
-}
-
-fn before(code: u32) -> [u8; 51]
-    ensures { result ≡ padded 51 (code_in code codes).before }
-{
-    let at = code_place(code) * 41;
-    row(&tables::TEXTS, at, 41)
-}
-
-fn before_length(code: u32) -> usize
-    ensures { result ≡ length (code_in code codes).before }
-{
-    let i = code_place(code);
-    tables::LENGTHS[i]
-}
-
-fn field_name(field: u32) -> [u8; 51]
-    ensures { result ≡ padded 51 (field_name field) }
-{
-    let at = field_place(field) * 15;
-    row(&tables::NAMES, at, 15)
-}
-
-fn name_length(field: u32) -> usize
-    ensures { result ≡ length (field_name field) }
-{
-    let i = field_place(field);
-    tables::NAME_LENGTHS[i]
-}
-
-// The first n characters of a text, and another after them.
-fn joined(start: [u8; 51], n: usize, more: [u8; 51]) -> [u8; 51]
-    requires { n ≤ 51 }
-    ensures { result ≡ take n start ++ take (51 - n) more }
-{
-    let mut out = start;
-    text::copy(&mut out[n..], &more);
-    out
+    match tables::FIELDS.iter().find(|row| row.0 == field) {
+        Some(row) => row.1,
+        None => b"",
+    }
 }
 
 // A byte as it is shown.
+#[tactic(auto, unfolding(crate::specs::Codes::shown_byte, ground::specs::Choice::between, ground::specs::Choice::both, ground::specs::Choice::pick))]
 fn shown_byte(b: u8) -> u8
     ensures { result ≡ shown_byte b }
 {
-    if b < 0x20 {
-        return b'?';
+    match b {
+        0x20..=0x7E => b,
+        _ => b'?',
     }
-    if 0x7E < b {
-        return b'?';
-    }
-    b
 }
 
 fn shown(text: [u8; 17]) -> [u8; 17]
     ensures { result ≡ map shown_byte text }
 {
-    let mut out = [0u8; 17];
-    let mut i = 0;
-    while i < 17 {
-        out[i] = shown_byte(text[i]);
-        i += 1;
-    }
-    out
+    text.map(shown_byte)
 }
 
-// How many characters there are, of those that there is room for.
-fn count_of(contents: message::Contents) -> usize
-    ensures { result ≡ min contents.count 17 }
+/// A part put at the end of a text that has room for it.
+pub fn put<const N: usize>(out: &mut ArrayVec<u8, N>, part: &[u8])
+    requires { array_vec_len out.old + length part.now ≤ N }
+    ensures items { out.new.items ≡ out.old.items ++ part.now }
+    ensures len { array_vec_len out.new ≡ array_vec_len out.old + length part.now }
 {
-    let count = contents.count;
-    if count <= 17 { count } else { 17 }
+    let _full = out.try_extend_from_slice(part);
 }
 
-// A blank and the contents of a field as they are shown, and blanks after them.
-fn value(contents: message::Contents) -> [u8; 51]
-    ensures { result ≡ padded 51 (value_text (held_in contents)) }
+// The field's name, where the code names one.
+#[tactic(auto, using(crate::proofs::Texts::name_length), unfolding(ground::specs::Choice::pick))]
+fn put_name(said: &mut Said, row: CodeRow, field: u32)
+    requires { array_vec_len said.old + pick row.names 15 0 ≤ 53 }
+    ensures items { said.new.items ≡ said.old.items ++ pick row.names (field_name field) [] }
+    ensures len { array_vec_len said.new ≤ array_vec_len said.old + pick row.names 15 0 }
 {
-    let n = count_of(contents);
-    let text = contents.text;
-    let seen = shown(text);
-    joined([b' '; 51], 1, row(&seen, 0, n))
+    if row.names {
+        put(said, name_of(field));
+    }
 }
 
-// What stands after a field's name: its contents, or in 1026 that the two messages differ.
-fn after_name(code: u32, contents: message::Contents) -> [u8; 51]
-    ensures { result ≡ padded 51 (pick (code_in code codes).shows (value_text (held_in contents)) [] ++ (code_in code codes).after) }
+// A blank and the contents of the field as they are shown, where the code shows them.
+fn put_value(said: &mut Said, row: CodeRow, contents: message::Contents)
+    requires { array_vec_len said.old + pick row.shows 18 0 ≤ 53 }
+    ensures items { said.new.items ≡ said.old.items ++ pick row.shows (value_text (held_in contents)) [] }
+    ensures len { array_vec_len said.new ≤ array_vec_len said.old + pick row.shows 18 0 }
 {
-    if shows_contents(code) {
-        return value(contents);
+    if row.shows {
+        put(said, b" ");
+        put(said, &shown(contents.text)[..contents.count.min(17)]);
     }
-    if code != 1026 {
-        return [b' '; 51];
-    }
-    *b": SUO-SANOMA <> VAR-SANOMA                         "
+}
+
+// The text of a code, whole.
+fn said(code: u32, field: u32, contents: message::Contents) -> Said
+    ensures { result.items ≡ text_of code field (held_in contents) }
+{
+    let row = row_of(code);
+    let mut said = ArrayVec::new();
+    put(&mut said, row.before);
+    put_name(&mut said, row, field);
+    put_value(&mut said, row, contents);
+    put(&mut said, row.after);
+    said
 }
 
 // The text of a code, with the field's name where it names one and its contents where it shows them, and blanks up to the notice's end.
 pub fn text(code: u32, field: u32, contents: message::Contents) -> [u8; 51]
     ensures { result ≡ padded 51 (text_of code field (held_in contents)) }
 {
-    let start = before(code);
-    if !names_field(code) {
-        return start;
-    }
-    let n = before_length(code);
-    let named = joined(start, n, field_name(field));
-    let end = n + name_length(field);
-    joined(named, end, after_name(code, contents))
+    let mut out = [b' '; 51];
+    text::copy(&mut out, &said(code, field, contents));
+    out
 }

@@ -21,7 +21,6 @@ use Rattle.message.specs.Fields.{receiver_of, sender_of, stamp_text_of}
 use Rattle.notice.specs.Codes.{codes, code_in, text_of}
 use Rattle.notice.proofs.Padding.{after}
 use Rattle.reply.specs.Reply.{clock_text, notice_of, Said, joined, opening_fields, full_fields, bare_fields}
-use Rattle.reply.specs.Putting.{marks}
 use Rattle.reply.specs.declared.Answering.{Answering}
 
 -- ---- fields joined
@@ -48,6 +47,13 @@ tag_length true = refl
 tag_length false = refl
 
 -- fields 1 to 5
+abbrev pub marks : Bool → ℕ → List ℕ
+marks pte code =
+    pick pte (letters ">>PTE317") (letters ">>ESI237") ++
+    letters "120" ++
+    pick (code_in code codes).accepted (letters "K") (letters "E") ++
+    decimal_digits 4 code
+
 pub marks-length : (pte : Bool) (code : ℕ) → length (marks pte code) ≡ 16
 unfolding letters
 marks-length pte code =

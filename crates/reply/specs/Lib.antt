@@ -1,3 +1,2 @@
 -- What the contracts of `reply` cite.
 pub mod Reply
-pub mod Putting

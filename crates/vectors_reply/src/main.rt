@@ -4,7 +4,6 @@
 
 #![tactic(auto)]
 
-use Option<u64>;
 use reply::Answering;
 
 fn say(words: &[u8]) {
