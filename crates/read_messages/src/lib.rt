@@ -16,7 +16,7 @@ ghost use Rattle.message.specs.declared.About.TheVariants.{Answered};
 ghost use Rattle.verdict.specs.Outcomes.{is_sound};
 ghost use Rattle.whole_file.specs.Messages.{begins, most_length, extent_of, is_whole, known_text};
 ghost use Rattle.whole_file.specs.Messages.{one_time, transport_held, one_time_of, once_of};
-ghost use Rattle.session.specs.Events.{held, wants, collected_by, is_esi, silent, bare_turn, place_after_esi, esi_done, suo_done, frame_by};
+ghost use Rattle.session.specs.Events.{held, wants, collected_by, is_esi, no_reply, silent, bare_turn, place_after_esi, esi_done, suo_done, frame_by};
 ghost use Rattle.session.specs.Events.{var_done, data_taken};
 
 // ---- a message as its records come
@@ -149,7 +149,8 @@ pub fn is_esi(k: message::Kind) -> bool
 // A step without a reply.
 #[tactic(auto, unfolding(session::specs::Events::silent))]
 pub fn quiet(s: session::Session) -> session::Stepped
-    ensures { (w : List ℕ) → result ≡ (silent s w).out }
+    ensures parts { result ≡ record { session = s; reply = no_reply } }
+    ensures value { (w : List ℕ) → result ≡ (silent s w).out }
 {
     session::Stepped {
         session: s,
