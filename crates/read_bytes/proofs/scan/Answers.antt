@@ -1,5 +1,5 @@
 -- What is left, from where the scan stands, gives the whole, and the round keys are those of the one-time key there.
-use Prim.Native.Nat.{◌+◌, ◌-◌}
+use Prim.Native.Nat.{◌+◌}
 use mathlib.Core.Path.{◌≡◌, refl, sym, ap, ◌∙◌}
 use native.Mathlib.Omega.{arith}
 use Rattle.des.specs.Des.{schedule_of}
