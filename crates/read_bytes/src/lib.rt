@@ -24,9 +24,7 @@ pub struct Scanned {
 fn batch_key(s: session::Session) -> u64
     ensures { result ≡ key_or0 s.batch.once }
 {
-    let batch = s.batch;
-    let once = batch.once;
-    checks::key_or_0(once)
+    checks::key_or_0(s.batch.once)
 }
 
 // Where a run of characters ends: at an LF, a CR, the size limit or the input's end; none while a CR waits.
@@ -39,6 +37,7 @@ fn run_end(input: &[u8], from: usize, l: session::Line) -> usize
     }
     let room = (4294967295 - l.size) as usize;
     let mut end = from;
+    // kept: a run ends at the first of four limits, and this loop is the reader's hot path
     while end < input.len() {
         let c = input[end];
         if c == 0x0A {
@@ -65,8 +64,7 @@ fn run_on(
     requires { (boxes.now ≡ joined) × (keys ≡ schedule_of (key_or0 s.batch.once)) × (s.line.size + length bytes.now ≤ 4294967295) }
     ensures { result ≡ with_line (heard s bytes.now) (record { size = s.line.size + length bytes.now; cr = false }) }
 {
-    let line = s.line;
-    let size = line.size + bytes.len() as u32;
+    let size = s.line.size + bytes.len() as u32;
     let after = read_characters::hear(boxes, keys, s, bytes);
     session::with_line(after, session::Line { size, cr: false })
 }
@@ -84,13 +82,11 @@ fn lf_place(input: &[u8], end: usize) -> usize
     requires { end ≤ length input.now }
     ensures { LineEnd input.now end result }
 {
-    if input.len() <= end {
-        return end;
+    if end < input.len() && input[end] == b'\r' {
+        end + 1
+    } else {
+        end
     }
-    if input[end] == 0x0D {
-        return end + 1;
-    }
-    end
 }
 
 // Whether a run is a whole data record: it has characters, an LF ends it, and no message begins with its first one.
@@ -98,19 +94,11 @@ fn is_whole(input: &[u8], at: usize, end: usize, to: usize, size: u32) -> bool
     requires { Runs input.now at (record { size = size; cr = false }) end × LineEnd input.now end to }
     ensures { result ≡ true → Whole input.now at size end to }
 {
-    if end <= at {
-        return false;
-    }
-    if input.len() <= to {
-        return false;
-    }
-    if input[at] == 0x3E {
-        return false;
-    }
-    if input[to] != 0x0A {
-        return false;
-    }
-    to - at < (4294967295 - size) as usize
+    at < end
+        && to < input.len()
+        && input[at] != b'>'
+        && input[to] == b'\n'
+        && to - at < (u32::MAX - size) as usize
 }
 
 // The whole data records from a place on, one after the other: a session isn't needed between them.
@@ -129,6 +117,7 @@ fn pass_records(
     let mut running = before;
     let mut size = first;
     let mut at = from;
+    // kept: no `for` goes on by whole records, each of its own length; hot path
     while at < input.len() {
         let end = run_end(input, at, session::Line { size, cr: false });
         let to = lf_place(input, end);
@@ -150,14 +139,12 @@ fn pass_records(
 }
 
 // The session after them.
+#[tactic(auto, unfolding(session::specs::Events::placed, session::specs::Events::with_batch, session::specs::Machine::with_line))]
 fn passed_to(s: session::Session, running: digest::Running, size: u32) -> session::Session
     ensures { result ≡ passed_to s running size }
 {
-    let batch = s.batch;
-    let suo = batch.suo;
-    let once = batch.once;
     let at = session::at_place(s, session::Place::InData, s.told, session::no_characters());
-    let taken = session::with_batch(at, session::Batch { suo, once, running });
+    let taken = session::with_batch(at, session::Batch { running, ..s.batch });
     session::with_line(taken, session::Line { size, cr: false })
 }
 
@@ -180,24 +167,14 @@ fn run_from(
     requires { (boxes.now ≡ joined) × (keys ≡ schedule_of (key_or0 s.batch.once)) × Runs input.now from s.line end × (from < end) }
     ensures { Skims input.now from s result.to result.session }
 {
-    let place = s.place;
-    let gathered = s.gathered;
-    if session::is_data(place) {
-        if gathered.count == 0 {
-            let line = s.line;
-            let batch = s.batch;
-            let suo = batch.suo;
-            let text = suo.text;
-            let before = batch.running;
-            let m = message::method(text);
-            let p = pass_records(boxes, keys, m, before, line.size, input, from);
-            if from < p.to {
-                let running = p.running;
-                return Ran {
-                    session: passed_to(s, running, p.size),
-                    to: p.to,
-                };
-            }
+    if session::is_data(s.place) && s.gathered.count == 0 {
+        let m = message::method(s.batch.suo.text);
+        let p = pass_records(boxes, keys, m, s.batch.running, s.line.size, input, from);
+        if from < p.to {
+            return Ran {
+                session: passed_to(s, p.running, p.size),
+                to: p.to,
+            };
         }
     }
     Ran {
@@ -217,17 +194,13 @@ fn told_by(
     requires { (boxes.now ≡ joined) × (keys ≡ schedule_of (key_or0 s.batch.once)) }
     ensures { result ≡ heard s (told_by waiting b) }
 {
-    let both = [0x0D, b];
-    if waiting {
-        if b == 0x0D {
-            return read_characters::hear(boxes, keys, s, &both[..1]);
-        }
-        return read_characters::hear(boxes, keys, s, &both);
+    let both = [b'\r', b];
+    match (waiting, b == b'\r') {
+        (true, true) => read_characters::hear(boxes, keys, s, &both[..1]),
+        (true, false) => read_characters::hear(boxes, keys, s, &both),
+        (false, true) => s,
+        (false, false) => read_characters::hear(boxes, keys, s, &both[1..]),
     }
-    if b == 0x0D {
-        return s;
-    }
-    read_characters::hear(boxes, keys, s, &both[1..])
 }
 
 // One byte.
@@ -242,16 +215,15 @@ fn step(
     ensures value { result ≡ (stepped s t.old b).out }
     ensures t_after { t.new ≡ (stepped s t.old b).table }
 {
-    let line = s.line;
-    let at = session::with_line(s, read_characters::line_after(line, b));
-    if 4294967295 <= line.size {
+    let at = session::with_line(s, read_characters::line_after(s.line, b));
+    if s.line.size == u32::MAX {
         return read_records::size_passed(at, t);
     }
-    if b == 0x0A {
+    if b == b'\n' {
         return read_records::record_ended(at, t);
     }
     session::Stepped {
-        session: told_by(boxes, keys, at, line.cr, b),
+        session: told_by(boxes, keys, at, s.line.cr, b),
         reply: session::no_reply(),
     }
 }
@@ -267,23 +239,22 @@ pub fn scan(s: session::Session, t: &mut [u8], input: &[u8]) -> Scanned
     let mut at = s;
     let mut key = batch_key(s);
     let mut keys = des::schedule(key);
-    let mut i: usize = 0;
+    let mut i = 0;
+    // kept: a `for` over the input cannot skip a run
     while i < input.len() {
-        let line = at.line;
-        let end = run_end(input, i, line);
+        let end = run_end(input, i, at.line);
         if i < end {
             let x = run_from(&boxes, keys, at, input, i, end);
             at = x.session;
             i = x.to;
         } else {
             let x = step(&boxes, keys, at, t, input[i]);
-            let reply = x.reply;
             at = x.session;
             i += 1;
-            if reply.given {
+            if x.reply.given {
                 return Scanned {
                     session: at,
-                    reply,
+                    reply: x.reply,
                     taken: i,
                 };
             }
@@ -306,21 +277,17 @@ pub fn last_ended(s: session::Session, t: &mut [u8]) -> session::Stepped
     ensures value { result ≡ (last_ended s t.old).out }
     ensures t_after { t.new ≡ (last_ended s t.old).table }
 {
-    let line = s.line;
-    let gathered = s.gathered;
-    if !line.cr {
-        if gathered.count == 0 {
-            return session::Stepped {
-                session: s,
-                reply: session::no_reply(),
-            };
-        }
+    if !s.line.cr && s.gathered.count == 0 {
+        return session::Stepped {
+            session: s,
+            reply: session::no_reply(),
+        };
     }
     let boxes = des::joined_table();
     let keys = des::schedule(batch_key(s));
     let ended = session::Line {
-        size: line.size,
         cr: false,
+        ..s.line
     };
     let heard = waiting_heard(&boxes, keys, s);
     read_records::record_ended(session::with_line(heard, ended), t)
@@ -331,10 +298,9 @@ fn waiting_heard(boxes: &[u32; 512], keys: [u64; 16], s: session::Session) -> se
     requires { (boxes.now ≡ joined) × (keys ≡ schedule_of (key_or0 s.batch.once)) }
     ensures { result ≡ heard s (waited s.line.cr) }
 {
-    let line = s.line;
-    if line.cr {
-        let waiting = [0x0D];
-        return read_characters::hear(boxes, keys, s, &waiting);
+    if s.line.cr {
+        read_characters::hear(boxes, keys, s, b"\r")
+    } else {
+        s
     }
-    s
 }

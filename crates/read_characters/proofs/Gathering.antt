@@ -8,8 +8,11 @@ use native.Mathlib.Numerals.{add-one}
 use native.Mathlib.Omega.{arith}
 use borrow.Author.Tests.{lt-ltb, le-ltb}
 use lib.Dec.{eqb, ltb}
-use lib.ListN.{length, get_or, set, take, drop, length-drop, drop_of_length-le, take-append-drop}
+use lib.ListN.{length, get_or, set, take, drop, length-drop, length-set, drop_of_length-le, take-append-drop}
 use lib.Seq.{drop-cons, take_all, length-take-le}
+use borrow.Rule.Slice.PartMut.{put_mid}
+use Rattle.std.proofs.lemmas.Grind.{common_steps}
+use Rattle.std.proofs.lemmas.List.{take_more_set, drop-set-lt, append_assoc}
 use Rattle.ground.specs.Choice.{both, either}
 use Rattle.ground.proofs.Choices.{picks, skips}
 use Rattle.text.specs.Characters.{blank}
@@ -45,6 +48,27 @@ module _ (g : Gathered) (l : List ℕ) (i : ℕ) where
   pub gathered_done : length l ≤ i → gathered_all g (drop i l) ≡ g
   unfolding gathered_all
   gathered_done h = rw (drop_of_length-le l {i = i} h)
+
+-- ---- as many as there is room for
+
+put_one : (text : List ℕ) (i k c : ℕ) (l : List ℕ) → i < length text → put_mid (i + 1) k (set text i c) l ≡ put_mid i (k + 1) text (c ∷ l)
+put_one text i k c l h = grind (arith, common_steps, take_more_set, drop-set-lt, append_assoc)
+
+put_none : (text : List ℕ) (i : ℕ) → put_mid i 0 text [] ≡ text
+put_none text i = take-append-drop i text
+
+pub kept_all : (g : Gathered) (l : List ℕ) (count k : ℕ) (text : List ℕ) → count ≡ g.count + length l → count ≤ 161 → length g.text ≡ 161
+    → k ≡ length l → text ≡ put_mid g.count k g.text l → record { count = count; blank = g.blank; text = text } ≡ gathered_all g l
+unfolding gathered_all
+kept_all g [] count k text e h w n f =
+    let p : count ≡ g.count = omega arith in
+    rw (f, n, p, put_none g.text g.count)
+kept_all g (c ∷ l) count k text e h w n f =
+    let r : Gathered = record { count = g.count + 1; blank = g.blank; text = set g.text g.count c } in
+    let m : k ≡ length l + 1 = omega arith in
+    kept_all r l count (length l) text (omega arith) h (length-set g.text g.count c ∙ w) refl
+    (f ∙ ap (λ (i : ℕ). put_mid g.count i g.text (c ∷ l)) m ∙ sym (put_one g.text g.count (length l) c l (omega arith)))
+    ∙ ap (λ (x : Gathered). gathered_all x l) (with_room g c (omega arith) refl refl refl)
 
 -- ---- in two parts
 

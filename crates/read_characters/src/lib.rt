@@ -13,17 +13,15 @@ ghost use Rattle.session.specs.Events.{gathered_all, batch_with, heard_by};
 fn counted(count: usize) -> usize
     ensures { result ≡ min (count + 1) most_length }
 {
-    if count < 500 { count + 1 } else { 500 }
+    count.saturating_add(1).min(500)
 }
 
 // Whether all that must be blank is, with one more at the place `count`.
+#[tactic(auto, unfolding(ground::specs::Choice::both, ground::specs::Choice::either))]
 fn still_blank(blank: bool, count: usize, wanted: usize, b: u8) -> bool
     ensures { result ≡ both «blank» (either (ltb count wanted) (eqb b 0x20)) }
 {
-    if count < wanted {
-        return blank;
-    }
-    if b == 0x20 { blank } else { false }
+    blank && (count < wanted || b == b' ')
 }
 
 // More characters past the room: only whether those past the stated length are blank is kept of them.
@@ -31,17 +29,14 @@ fn pass_over(g: session::Gathered, bytes: &[u8]) -> session::Gathered
     requires { 161 ≤ g.count }
     ensures { result ≡ gathered_all g bytes.now }
 {
-    let text = g.text;
-    let wanted = session::wanted_length(text, 161);
+    let wanted = session::wanted_length(g.text, 161);
     let mut count = g.count;
     let mut blank = g.blank;
-    let mut i = 0;
-    while i < bytes.len() {
-        blank = still_blank(blank, count, wanted, bytes[i]);
+    for &b in bytes {
+        blank = still_blank(blank, count, wanted, b);
         count = counted(count);
-        i += 1;
     }
-    session::Gathered { count, blank, text }
+    session::Gathered { count, blank, ..g }
 }
 
 // More characters as far as there is room for them.
@@ -49,16 +44,10 @@ fn keep(g: session::Gathered, bytes: &[u8]) -> session::Gathered
     requires { g.count + length bytes.now ≤ 161 }
     ensures { result ≡ gathered_all g bytes.now }
 {
-    let blank = g.blank;
-    let mut count = g.count;
+    let count = g.count + bytes.len();
     let mut text = g.text;
-    let mut i = 0;
-    while i < bytes.len() {
-        text[count] = bytes[i];
-        count += 1;
-        i += 1;
-    }
-    session::Gathered { count, blank, text }
+    text[g.count..count].copy_from_slice(bytes);
+    session::Gathered { count, text, ..g }
 }
 
 // The record or message on its way with more characters.
@@ -76,6 +65,7 @@ pub fn gather(g: session::Gathered, bytes: &[u8]) -> session::Gathered
 }
 
 // In data the characters go into the digest too.
+#[tactic(auto, unfolding(session::specs::Events::batch_with, ground::specs::Choice::pick))]
 fn batch_with(
     table: &[u32; 512],
     keys: [u64; 16],
@@ -88,14 +78,14 @@ fn batch_with(
     if !session::is_data(p) {
         return b;
     }
-    let suo = b.suo;
-    let once = b.once;
-    let before = b.running;
-    let running = digest::run(table, keys, before, bytes);
-    session::Batch { suo, once, running }
+    session::Batch {
+        running: digest::run(table, keys, b.running, bytes),
+        ..b
+    }
 }
 
 // The session with more characters of the record on its way; `keys` are the round keys of the one-time key.
+#[tactic(auto, unfolding(session::specs::Events::heard_by))]
 pub fn hear(
     table: &[u32; 512],
     keys: [u64; 16],
@@ -104,24 +94,23 @@ pub fn hear(
 ) -> session::Session
     ensures { result ≡ heard_by (joined_by table.now keys) s bytes.now }
 {
-    let place = s.place;
-    let before = s.gathered;
-    let open_batch = s.batch;
-    let mut after = s;
-    after.gathered = gather(before, bytes);
-    after.batch = batch_with(table, keys, place, open_batch, bytes);
-    after
+    session::Session {
+        gathered: gather(s.gathered, bytes),
+        batch: batch_with(table, keys, s.place, s.batch, bytes),
+        ..s
+    }
 }
 
 // The bytes' side after one byte more.
+#[tactic(auto, unfolding(session::specs::Lines::line_after, ground::specs::Choice::pick))]
 pub fn line_after(l: session::Line, b: u8) -> session::Line
     ensures { result ≡ line_after l b }
 {
-    if 4294967295 <= l.size {
-        return l;
-    }
-    session::Line {
-        size: l.size + 1,
-        cr: b == 0x0D,
+    match l.size.checked_add(1) {
+        Some(size) => session::Line {
+            size,
+            cr: b == b'\r',
+        },
+        None => l,
     }
 }

@@ -1,58 +1,32 @@
 -- What is kept of a text: whether what is over is blank, its known fields, what the first record tells; field 2 ends before any cut.
 -- Assumes nothing.
-use mathlib.Core.Path.{◌≡◌, refl, sym, ap, ap₂, ◌∙◌}
+use mathlib.Core.Path.{◌≡◌, sym, ap, ap₂, ◌∙◌}
 use mathlib.Core.Bool.{Bool, true, false}
-use mathlib.Core.List.{List, [], ◌∷◌, ◌++◌}
-use Prim.Native.Nat.{ℕ, zero, suc, ◌≤◌, ◌<◌, min}
+use mathlib.Core.List.{List}
+use Prim.Native.Nat.{ℕ, ◌≤◌, ◌<◌, min}
 use native.Mathlib.Nat.{min-le_left, le_trans}
 use native.Mathlib.Omega.{arith}
 use borrow.Author.Tests.{lt-ltb, le-ltb}
 use lib.Dec.{ltb}
 use lib.ListN.{length, take, drop, replicate, length-take, drop_of_length-le}
 use lib.Seq.{take_all}
-use Rattle.ground.specs.Choice.{both, fails, pick, between}
+use Rattle.ground.specs.Choice.{fails, pick, between}
 use Rattle.ground.specs.Lists.{all, part, overlay}
-use Rattle.ground.proofs.Choices.{picks, skips, decides, fails_left}
+use Rattle.ground.proofs.Choices.{picks, skips}
 use Rattle.ground.proofs.Parts.{take_least, over_zeros, part-take}
 use Rattle.text.specs.Characters.{digit, all_blank}
 use Rattle.text.specs.Numbers.{decimal}
 use Rattle.message.specs.Layout.{layout_length}
 use Rattle.message.specs.declared.Kind.{Kind}
-use Rattle.message.specs.declared.Extent.{Extent}
 use Rattle.message.specs.declared.Extent.TheVariants.{Whole, TooShort, LengthNotDigits, OtherLength}
 use Rattle.message.proofs.Places.{length-field}
-use Rattle.whole_file.specs.Messages.{stated_length, extent_of, wanted_length, known_text}
-use Rattle.session.specs.Events.{held, collected_by}
-use Rattle.session.specs.declared.Gathered.{Gathered}
+use Rattle.whole_file.specs.Messages.{stated_length, extent_of, known_text}
 
 -- ---- what is over
 
 pub none_over : (from n : ℕ) (l : List ℕ) → length (take n l) ≤ from → true ≡ all_blank (drop from (take n l))
 unfolding all
 none_over from n l h = rw (drop_of_length-le (take n l) h)
-
-module _ (kind : Kind) (extent : Extent) (g : Gathered) (text : List ℕ) (t : text ≡ known_text kind (take g.count g.text))
-    (wanted : ℕ) (e : wanted ≡ wanted_length (take g.count g.text)) (b : Bool)
-    (d : b ≡ all_blank (drop wanted (take g.count g.text))) where
-  surplus : all_blank (drop (wanted_length (held g)) (held g)) ≡ b
-  unfolding held
-  surplus = ap (λ (n : ℕ). all_blank (drop n (take g.count g.text))) (sym e) ∙ sym d
-
-  known : text ≡ known_text kind (held g)
-  unfolding held
-  known = t
-
-  made : (x : Bool) → both (all_blank (drop (wanted_length (held g)) (held g))) g.blank ≡ x
-      → record { extent = extent; blank = x; text = text } ≡ collected_by kind extent g
-  unfolding collected_by
-  made x q =
-      ap₂ (λ (y : Bool) (l : List ℕ). record { extent = extent; blank = y; text = l }) (sym q) known
-
-  pub blank_over : b ≡ true → record { extent = extent; blank = g.blank; text = text } ≡ collected_by kind extent g
-  blank_over h = made _ (decides _ _ (surplus ∙ h))
-
-  pub other_over : b ≡ false → record { extent = extent; blank = false; text = text } ≡ collected_by kind extent g
-  other_over h = made _ (fails_left _ _ (surplus ∙ h))
 
 -- ---- the known fields
 

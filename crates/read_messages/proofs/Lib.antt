@@ -1,4 +1,3 @@
 -- Laws that belong to no one function.
 pub mod Kept
-pub mod Turns
 pub mod Done

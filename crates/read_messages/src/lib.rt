@@ -16,60 +16,51 @@ ghost use Rattle.message.specs.declared.About.TheVariants.{Answered};
 ghost use Rattle.verdict.specs.Outcomes.{is_sound};
 ghost use Rattle.whole_file.specs.Messages.{begins, most_length, extent_of, is_whole, known_text};
 ghost use Rattle.whole_file.specs.Messages.{one_time, transport_held, one_time_of, once_of};
-ghost use Rattle.session.specs.Events.{held, wants, collected_by, is_esi, silent, bare_turn, place_after_esi, esi_done, suo_done, frame_by};
+ghost use Rattle.session.specs.Events.{held, wants, collected_by, is_esi, no_reply, silent, bare_turn, place_after_esi, esi_done, suo_done, frame_by};
 ghost use Rattle.session.specs.Events.{var_done, data_taken};
 
 // ---- a message as its records come
-
-fn least(a: usize, b: usize) -> usize
-    ensures { result ≡ min a b }
-{
-    if a <= b { a } else { b }
-}
 
 // How many characters are kept: at most the room.
 fn kept_count(text: [u8; 161], count: usize) -> usize
     ensures { (result ≡ length (take count text)) × (result ≤ 161) }
 {
-    least(count, 161)
+    count.min(161)
 }
 
 fn begins_with(text: [u8; 161], count: usize, tag: &[u8]) -> bool
     ensures { result ≡ same (take 5 (take count text)) tag.now }
 {
-    let n = least(5, count);
-    text::same_bytes(&text[..n], tag)
+    &text[..count.min(5)] == tag
 }
 
+#[tactic(auto, unfolding(text::specs::Letters::letters, whole_file::specs::Messages::begins, session::specs::Events::held))]
 pub fn begins_esi(g: session::Gathered) -> bool
     ensures { result ≡ begins ">>ESI" (held g) }
 {
-    let text = g.text;
-    begins_with(text, g.count, b">>ESI")
+    begins_with(g.text, g.count, b">>ESI")
 }
 
+#[tactic(auto, unfolding(text::specs::Letters::letters, whole_file::specs::Messages::begins, session::specs::Events::held))]
 pub fn begins_suo(g: session::Gathered) -> bool
     ensures { result ≡ begins ">>SUO" (held g) }
 {
-    let text = g.text;
-    begins_with(text, g.count, b">>SUO")
+    begins_with(g.text, g.count, b">>SUO")
 }
 
+#[tactic(auto, unfolding(text::specs::Letters::letters, whole_file::specs::Messages::begins, session::specs::Events::held))]
 pub fn begins_var(g: session::Gathered) -> bool
     ensures { result ≡ begins ">>VAR" (held g) }
 {
-    let text = g.text;
-    begins_with(text, g.count, b">>VAR")
+    begins_with(g.text, g.count, b">>VAR")
 }
 
 // Whether a length is from the layout's to the longest message's.
+#[tactic(auto, unfolding(ground::specs::Choice::between, ground::specs::Choice::both))]
 fn is_between(layout: usize, length: u64) -> bool
     ensures { result ≡ between layout most_length length }
 {
-    if length < layout as u64 {
-        return false;
-    }
-    length <= 500
+    (layout as u64..=500).contains(&length)
 }
 
 // What the first record tells of a message.
@@ -89,31 +80,26 @@ fn extent_in(k: message::Kind, text: [u8; 161], count: usize) -> message::Extent
     message::Extent::Whole
 }
 
+#[tactic(auto, unfolding(session::specs::Events::held))]
 pub fn extent_of(k: message::Kind, g: session::Gathered) -> message::Extent
     ensures { result ≡ extent_of k (held g) }
 {
-    let text = g.text;
-    extent_in(k, text, g.count)
+    extent_in(k, g.text, g.count)
 }
 
+#[tactic(auto, unfolding(whole_file::specs::Messages::is_whole))]
 pub fn is_whole(extent: message::Extent) -> bool
     ensures { result ≡ is_whole extent }
 {
-    match extent {
-        message::Extent::Whole => true,
-        message::Extent::TooShort => false,
-        message::Extent::LengthNotDigits => false,
-        message::Extent::OtherLength => false,
-        message::Extent::CutShort => false,
-    }
+    matches!(extent, message::Extent::Whole)
 }
 
 // Whether the length that it states is not yet reached.
+#[tactic(auto, unfolding(session::specs::Events::wants, session::specs::Events::held))]
 pub fn wants_more(g: session::Gathered) -> bool
     ensures { result ≡ wants g }
 {
-    let text = g.text;
-    g.count < session::wanted_length(text, g.count)
+    g.count < session::wanted_length(g.text, g.count)
 }
 
 // Whether those kept past the first `from` are blank.
@@ -121,10 +107,7 @@ fn over_blank(text: [u8; 161], count: usize, from: usize) -> bool
     ensures { result ≡ all_blank (drop from (take count text)) }
 {
     let n = kept_count(text, count);
-    if n <= from {
-        return true;
-    }
-    text::all_blank(&text[from..n])
+    n <= from || text::all_blank(&text[from..n])
 }
 
 // The known fields: the rest of the room is zeros.
@@ -132,12 +115,13 @@ fn known_text(k: message::Kind, text: [u8; 161], count: usize) -> [u8; 161]
     ensures { result ≡ known_text k (take count text) }
 {
     let mut out = [0u8; 161];
-    let n = least(message::length_of(k), count);
+    let n = message::length_of(k).min(count);
     text::copy(&mut out, &text[..n]);
     out
 }
 
 // The message with its known fields.
+#[tactic(auto, unfolding(session::specs::Events::collected_by, session::specs::Events::held, ground::specs::Choice::both))]
 pub fn collected_by(
     k: message::Kind,
     extent: message::Extent,
@@ -145,38 +129,28 @@ pub fn collected_by(
 ) -> message::Collected
     ensures { result ≡ collected_by k extent g }
 {
-    let gathered = g.text;
-    let text = known_text(k, gathered, g.count);
-    let wanted = session::wanted_length(gathered, g.count);
-    if over_blank(gathered, g.count, wanted) {
-        return message::Collected {
-            extent,
-            blank: g.blank,
-            text,
-        };
-    }
+    let wanted = session::wanted_length(g.text, g.count);
     message::Collected {
         extent,
-        blank: false,
-        text,
+        blank: over_blank(g.text, g.count, wanted) && g.blank,
+        text: known_text(k, g.text, g.count),
     }
 }
 
+#[tactic(auto, unfolding(session::specs::Events::is_esi))]
 pub fn is_esi(k: message::Kind) -> bool
     ensures { result ≡ is_esi k }
 {
-    match k {
-        message::Kind::Esi => true,
-        message::Kind::Suo => false,
-        message::Kind::Var => false,
-    }
+    matches!(k, message::Kind::Esi)
 }
 
 // ---- what every event is made of
 
 // A step without a reply.
+#[tactic(auto, unfolding(session::specs::Events::silent))]
 pub fn quiet(s: session::Session) -> session::Stepped
-    ensures { (w : List ℕ) → result ≡ (silent s w).out }
+    ensures parts { result ≡ record { session = s; reply = no_reply } }
+    ensures value { (w : List ℕ) → result ≡ (silent s w).out }
 {
     session::Stepped {
         session: s,
@@ -185,6 +159,7 @@ pub fn quiet(s: session::Session) -> session::Stepped
 }
 
 // A bare reply, ESI or PTE, that names a field in the first `count` characters of `m`, and the session after it.
+#[tactic(auto, unfolding(session::specs::Events::bare_turn, session::specs::Events::replies))]
 fn bare_on(
     t: &[u8],
     s: session::Session,
@@ -197,13 +172,11 @@ fn bare_on(
 ) -> session::Stepped
     ensures { result ≡ (bare_turn s t.now pte code field (take count m) after).out }
 {
-    let opening = s.opening;
-    let answer = answers::bare_answer(t, opening, pte, code, field, m, count);
     session::Stepped {
         session: after,
         reply: session::Reply {
             given: true,
-            answer,
+            answer: answers::bare_answer(t, s.opening, pte, code, field, m, count),
         },
     }
 }
@@ -222,6 +195,7 @@ pub fn bare(
 }
 
 // A bare ESI on field 1 of the record that ends.
+#[tactic(auto, unfolding(session::specs::Events::held))]
 pub fn bare_tag(
     t: &[u8],
     s: session::Session,
@@ -230,36 +204,42 @@ pub fn bare_tag(
 ) -> session::Stepped
     ensures { result ≡ (bare_turn s t.now false code (field 1) (held s.gathered) after).out }
 {
-    let gathered = s.gathered;
-    let text = gathered.text;
-    let count = gathered.count;
-    bare_on(t, s, false, code, 10, text, count, after)
+    bare_on(
+        t,
+        s,
+        false,
+        code,
+        10,
+        s.gathered.text,
+        s.gathered.count,
+        after,
+    )
 }
 
+#[tactic(auto, unfolding(session::specs::Events::place_after_esi))]
 fn place_after_esi(accepted: bool) -> session::Place
     ensures { result ≡ place_after_esi accepted }
 {
     if accepted {
-        return session::Place::Outside;
+        session::Place::Outside
+    } else {
+        session::Place::Closed
     }
-    session::Place::Closed
 }
 
 // An ESI's end: refused, it closes the file.
+#[tactic(auto, unfolding(session::specs::Events::esi_done, session::specs::Events::replies))]
 pub fn esi_done(s: session::Session, t: &mut [u8], extent: message::Extent) -> session::Stepped
     ensures value { result ≡ (esi_done s t.old (collected_by Esi extent s.gathered)).out }
     ensures t_after { t.new ≡ (esi_done s t.old (collected_by Esi extent s.gathered)).table }
 {
-    let gathered = s.gathered;
-    let opening = s.opening;
-    let m = collected_by(message::Kind::Esi, extent, gathered);
-    let text = m.text;
-    let o = session::occasion_of(opening, s.made);
+    let m = collected_by(message::Kind::Esi, extent, s.gathered);
+    let o = session::occasion_of(s.opening, s.made);
     let out = verdict::judge_esi(t, o, m);
-    let answer = answers::verdict_answer(t, opening, false, out, text, text);
+    let answer = answers::verdict_answer(t, s.opening, false, out, m.text, m.text);
     let place = place_after_esi(notice::is_accepted(out.code));
     session::Stepped {
-        session: session::after_verdict(s, place, out.made, message::sender(text)),
+        session: session::after_verdict(s, place, out.made, message::sender(m.text)),
         reply: session::Reply {
             given: true,
             answer,
@@ -268,33 +248,24 @@ pub fn esi_done(s: session::Session, t: &mut [u8], extent: message::Extent) -> s
 }
 
 // Field 15 deciphered under a transport key, if there is one.
+#[tactic(auto, unfolding(whole_file::specs::Messages::one_time))]
 fn one_time(k: Option<u64>, suo: [u8; 161]) -> Option<u64>
     ensures { result ≡ one_time k suo }
 {
-    match k {
-        None => None,
-        Some(transport) => {
-            Some(des::decipher(transport, message::once_field(suo)))
-        }
-    }
+    k.map(|transport| des::decipher(transport, message::once_field(suo)))
 }
 
 // The transport key of the generation that a SUO names; a sender who is not there holds none.
+#[tactic(auto, unfolding(whole_file::specs::Messages::transport_held))]
 fn transport_held(t: &[u8], place: Option<usize>, suo: [u8; 161]) -> Option<u64>
     ensures { result ≡ transport_held (table_of t.now) place suo }
 {
-    match place {
-        Some(i) => {
-            let c = table::load(t, i);
-            let keys = c.transport;
-            let named = message::transport_generation(suo);
-            changeover::held(keys, named)
-        }
-        None => None,
-    }
+    let customer = table::load(t, place?);
+    changeover::held(customer.transport, message::transport_generation(suo))
 }
 
 // The one-time key, by the transport key that the SUO's sender holds now.
+#[tactic(auto, unfolding(whole_file::specs::Messages::one_time_of))]
 fn one_time_of(t: &[u8], suo: [u8; 161]) -> Option<u64>
     ensures { result ≡ one_time_of (table_of t.now) suo }
 {
@@ -306,81 +277,68 @@ fn one_time_of(t: &[u8], suo: [u8; 161]) -> Option<u64>
 fn is_sound_suo(suo: message::Collected) -> bool
     ensures { result ≡ is_sound (first_failing (form_checks (form_of Suo) Answered suo)) }
 {
-    let text = suo.text;
-    let extent = suo.extent;
-    let fault = message::fault_of(
+    verdict::is_sound(message::fault_of(
         message::Kind::Suo,
         message::About::Answered,
-        extent,
+        suo.extent,
         suo.blank,
-        &text,
-    );
-    verdict::is_sound(fault)
+        &suo.text,
+    ))
 }
 
 // The one-time key that a SUO carries: a faulty one carries none.
+#[tactic(auto, unfolding(whole_file::specs::Messages::once_of, ground::specs::Choice::pick))]
 fn once_of(t: &[u8], suo: message::Collected) -> Option<u64>
     ensures { result ≡ once_of (table_of t.now) suo }
 {
-    if !is_sound_suo(suo) {
-        return None;
+    if is_sound_suo(suo) {
+        one_time_of(t, suo.text)
+    } else {
+        None
     }
-    let text = suo.text;
-    one_time_of(t, text)
 }
 
 // A SUO's end, faulty or not, opens a frame.
+#[tactic(auto, unfolding(session::specs::Events::suo_done))]
 pub fn suo_done(s: session::Session, t: &[u8], extent: message::Extent) -> session::Session
     ensures { result ≡ suo_done s t.now (collected_by Suo extent s.gathered) }
 {
-    let gathered = s.gathered;
-    let suo = collected_by(message::Kind::Suo, extent, gathered);
-    let once = once_of(t, suo);
-    let running = digest::at_record(digest::start());
-    let nothing = session::no_characters();
-    let at = session::at_place(s, session::Place::InData, s.told, nothing);
-    session::with_batch(at, session::Batch { suo, once, running })
+    let suo = collected_by(message::Kind::Suo, extent, s.gathered);
+    let batch = session::Batch {
+        suo,
+        once: once_of(t, suo),
+        running: digest::at_record(digest::start()),
+    };
+    let at = session::at_place(s, session::Place::InData, s.told, session::no_characters());
+    session::with_batch(at, batch)
 }
 
 // The frame at its VAR's end, with the digest of the records before.
 fn frame_by(s: session::Session, var: message::Collected) -> checks::Frame
     ensures { result ≡ frame_by s var }
 {
-    let batch = s.batch;
-    let suo = batch.suo;
-    let once = batch.once;
-    let running = batch.running;
-    let state = running.start;
     let table = des::joined_table();
-    let keys = des::schedule(checks::key_or_0(once));
-    let digest = digest::finish(&table, keys, state);
+    let keys = des::schedule(checks::key_or_0(s.batch.once));
     checks::Frame {
-        suo,
+        suo: s.batch.suo,
         var,
-        once,
-        digest,
+        once: s.batch.once,
+        digest: digest::finish(&table, keys, s.batch.running.start),
     }
 }
 
 // A VAR's end: the frame's verdict.
+#[tactic(auto, unfolding(session::specs::Events::var_done, session::specs::Events::replies))]
 pub fn var_done(s: session::Session, t: &mut [u8], extent: message::Extent) -> session::Stepped
     ensures value { result ≡ (var_done s t.old (collected_by Var extent s.gathered)).out }
     ensures t_after { t.new ≡ (var_done s t.old (collected_by Var extent s.gathered)).table }
 {
-    let gathered = s.gathered;
-    let opening = s.opening;
-    let batch = s.batch;
-    let suo = batch.suo;
-    let suo_text = suo.text;
-    let sender = s.sender;
-    let m = collected_by(message::Kind::Var, extent, gathered);
-    let text = m.text;
-    let o = session::occasion_of(opening, s.made);
-    let f = frame_by(s, m);
-    let out = verdict::judge_frame(t, o, f);
-    let answer = answers::verdict_answer(t, opening, true, out, suo_text, text);
+    let m = collected_by(message::Kind::Var, extent, s.gathered);
+    let o = session::occasion_of(s.opening, s.made);
+    let out = verdict::judge_frame(t, o, frame_by(s, m));
+    let answer = answers::verdict_answer(t, s.opening, true, out, s.batch.suo.text, m.text);
     session::Stepped {
-        session: session::after_verdict(s, session::Place::Outside, out.made, sender),
+        session: session::after_verdict(s, session::Place::Outside, out.made, s.sender),
         reply: session::Reply {
             given: true,
             answer,
@@ -389,15 +347,14 @@ pub fn var_done(s: session::Session, t: &mut [u8], extent: message::Extent) -> s
 }
 
 // The end of a data record.
+#[tactic(auto, unfolding(session::specs::Events::data_taken))]
 pub fn data_taken(s: session::Session) -> session::Session
     ensures { result ≡ data_taken s }
 {
-    let batch = s.batch;
-    let suo = batch.suo;
-    let once = batch.once;
-    let before = batch.running;
-    let text = suo.text;
-    let running = digest::end_record(message::method(text), before);
+    let batch = session::Batch {
+        running: digest::end_record(message::method(s.batch.suo.text), s.batch.running),
+        ..s.batch
+    };
     let at = session::at_place(s, session::Place::InData, s.told, session::no_characters());
-    session::with_batch(at, session::Batch { suo, once, running })
+    session::with_batch(at, batch)
 }

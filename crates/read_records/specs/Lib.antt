@@ -1,1 +1,2 @@
 -- What private contracts of `read_records` cite.
+pub mod Messages

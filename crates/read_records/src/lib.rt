@@ -3,104 +3,74 @@
 #![tactic(auto)]
 
 ghost use Rattle.std.specs.Prelude.{◌≡◌};
-ghost use Rattle.session.specs.Events.{esi_on, suo_on, var_on, esi_start, suo_start, var_start, first_ends, outside_ends, frame_ends};
-ghost use Rattle.session.specs.Events.{collecting_ends, record_ended, passed, cut_short, file_ended};
+ghost use Rattle.session.specs.Events.{first_ends, outside_ends, frame_ends, collecting_ends, record_ended, passed, cut_short, file_ended};
+ghost use Rattle.read_records.specs.Messages.{message_done, message_start};
 
-// A record's end in an ESI.
-fn esi_on(s: session::Session, t: &mut [u8]) -> session::Stepped
-    ensures value { result ≡ (esi_on s t.old).out }
-    ensures t_after { t.new ≡ (esi_on s t.old).table }
+// A message's end: the verdict on an ESI and on a VAR, and a SUO's frame.
+#[tactic(auto, unfolding(crate::specs::Messages::message_done, session::specs::Events::silent))]
+fn message_done(
+    k: message::Kind,
+    extent: message::Extent,
+    s: session::Session,
+    t: &mut [u8],
+) -> session::Stepped
+    ensures value { result ≡ (message_done k extent s t.old).out }
+    ensures t_after { t.new ≡ (message_done k extent s t.old).table }
 {
-    let gathered = s.gathered;
-    if read_messages::wants_more(gathered) {
-        return read_messages::quiet(session::keeps_on(s, message::Kind::Esi));
+    match k {
+        message::Kind::Esi => read_messages::esi_done(s, t, extent),
+        message::Kind::Suo => read_messages::quiet(read_messages::suo_done(s, t, extent)),
+        message::Kind::Var => read_messages::var_done(s, t, extent),
     }
-    read_messages::esi_done(s, t, message::Extent::Whole)
 }
 
-// A record's end in a SUO.
-fn suo_on(s: session::Session, t: &[u8]) -> session::Session
-    ensures { result ≡ suo_on s t.now }
+// A record's end in a message: it goes on until its length is reached.
+#[tactic(auto, using(crate::proofs::ByKind::on_is), unfolding(ground::specs::Choice::pick, session::specs::Events::silent))]
+fn message_on(k: message::Kind, s: session::Session, t: &mut [u8]) -> session::Stepped
+    ensures value { result ≡ (collecting_ends k s t.old).out }
+    ensures t_after { t.new ≡ (collecting_ends k s t.old).table }
 {
-    let gathered = s.gathered;
-    if read_messages::wants_more(gathered) {
-        return session::keeps_on(s, message::Kind::Suo);
+    if read_messages::wants_more(s.gathered) {
+        return read_messages::quiet(session::keeps_on(s, k));
     }
-    read_messages::suo_done(s, t, message::Extent::Whole)
+    message_done(k, message::Extent::Whole, s, t)
 }
 
-// A record's end in a VAR.
-fn var_on(s: session::Session, t: &mut [u8]) -> session::Stepped
-    ensures value { result ≡ (var_on s t.old).out }
-    ensures t_after { t.new ≡ (var_on s t.old).table }
+// The first record of a message: one with a fault of its extent stands alone.
+#[tactic(auto, using(crate::proofs::ByKind::start_is), unfolding(ground::specs::Choice::pick, session::specs::Events::extent_by))]
+fn message_start(k: message::Kind, s: session::Session, t: &mut [u8]) -> session::Stepped
+    ensures value { result ≡ (message_start k s t.old).out }
+    ensures t_after { t.new ≡ (message_start k s t.old).table }
 {
-    let gathered = s.gathered;
-    if read_messages::wants_more(gathered) {
-        return read_messages::quiet(session::keeps_on(s, message::Kind::Var));
-    }
-    read_messages::var_done(s, t, message::Extent::Whole)
-}
-
-// The first record of an ESI.
-fn esi_start(s: session::Session, t: &mut [u8]) -> session::Stepped
-    ensures value { result ≡ (esi_start s t.old).out }
-    ensures t_after { t.new ≡ (esi_start s t.old).table }
-{
-    let gathered = s.gathered;
-    let extent = read_messages::extent_of(message::Kind::Esi, gathered);
+    let extent = read_messages::extent_of(k, s.gathered);
     if read_messages::is_whole(extent) {
-        return esi_on(s, t);
+        return message_on(k, s, t);
     }
-    read_messages::esi_done(s, t, extent)
-}
-
-// The first record of a SUO.
-fn suo_start(s: session::Session, t: &[u8]) -> session::Session
-    ensures { result ≡ suo_start s t.now }
-{
-    let gathered = s.gathered;
-    let extent = read_messages::extent_of(message::Kind::Suo, gathered);
-    if read_messages::is_whole(extent) {
-        return suo_on(s, t);
-    }
-    read_messages::suo_done(s, t, extent)
-}
-
-// The first record of a VAR.
-fn var_start(s: session::Session, t: &mut [u8]) -> session::Stepped
-    ensures value { result ≡ (var_start s t.old).out }
-    ensures t_after { t.new ≡ (var_start s t.old).table }
-{
-    let gathered = s.gathered;
-    let extent = read_messages::extent_of(message::Kind::Var, gathered);
-    if read_messages::is_whole(extent) {
-        return var_on(s, t);
-    }
-    read_messages::var_done(s, t, extent)
+    message_done(k, extent, s, t)
 }
 
 // The first record: it must be an ESI's.
+#[tactic(auto, unfolding(session::specs::Events::first_ends, crate::specs::Messages::message_start, ground::specs::Choice::pick, session::specs::Events::bare_turn, session::specs::Events::replies))]
 fn first_ends(s: session::Session, t: &mut [u8]) -> session::Stepped
     ensures value { result ≡ (first_ends s t.old).out }
     ensures t_after { t.new ≡ (first_ends s t.old).table }
 {
-    let gathered = s.gathered;
-    if read_messages::begins_esi(gathered) {
-        return esi_start(s, t);
+    if read_messages::begins_esi(s.gathered) {
+        return message_start(message::Kind::Esi, s, t);
     }
     read_messages::bare_tag(t, s, 1010, session::closed_at(s))
 }
 
 // A record outside a frame.
-fn outside_ends(s: session::Session, t: &[u8]) -> session::Stepped
-    ensures value { result ≡ (outside_ends s t.now).out }
-    ensures t_value { t.now ≡ (outside_ends s t.now).table }
+#[tactic(auto, unfolding(session::specs::Events::outside_ends, crate::specs::Messages::message_start, ground::specs::Choice::pick, session::specs::Events::bare_turn, session::specs::Events::replies, session::specs::Events::silent))]
+fn outside_ends(s: session::Session, t: &mut [u8]) -> session::Stepped
+    ensures value { result ≡ (outside_ends s t.old).out }
+    ensures t_after { t.new ≡ (outside_ends s t.old).table }
 {
-    let gathered = s.gathered;
-    if read_messages::begins_suo(gathered) {
-        return read_messages::quiet(suo_start(s, t));
+    if read_messages::begins_suo(s.gathered) {
+        return message_start(message::Kind::Suo, s, t);
     }
-    if read_messages::begins_esi(gathered) {
+    if read_messages::begins_esi(s.gathered) {
         return read_messages::bare_tag(t, s, 1011, session::closed_at(s));
     }
     let after = session::at_place(s, session::Place::Outside, true, session::no_characters());
@@ -111,90 +81,74 @@ fn outside_ends(s: session::Session, t: &[u8]) -> session::Stepped
 }
 
 // A record in a frame: the VAR, a second SUO, a later ESI, or data.
+#[tactic(auto, unfolding(session::specs::Events::frame_ends, crate::specs::Messages::message_start, ground::specs::Choice::pick, session::specs::Events::bare_turn, session::specs::Events::replies, session::specs::Events::silent))]
 fn frame_ends(s: session::Session, t: &mut [u8]) -> session::Stepped
     ensures value { result ≡ (frame_ends s t.old).out }
     ensures t_after { t.new ≡ (frame_ends s t.old).table }
 {
-    let gathered = s.gathered;
-    if read_messages::begins_var(gathered) {
-        return var_start(s, t);
+    if read_messages::begins_var(s.gathered) {
+        return message_start(message::Kind::Var, s, t);
     }
-    if read_messages::begins_suo(gathered) {
-        return read_messages::bare(t, s, true, 1024, suo_start(s, t));
+    if read_messages::begins_suo(s.gathered) {
+        let second = message_start(message::Kind::Suo, s, t);
+        return read_messages::bare(t, s, true, 1024, second.session);
     }
-    if read_messages::begins_esi(gathered) {
+    if read_messages::begins_esi(s.gathered) {
         return read_messages::bare(t, s, true, 1024, session::closed_at(s));
     }
     read_messages::quiet(read_messages::data_taken(s))
 }
 
-// A record's end in a message of that kind.
-fn collecting_ends(k: message::Kind, s: session::Session, t: &mut [u8]) -> session::Stepped
-    ensures value { result ≡ (collecting_ends k s t.old).out }
-    ensures t_after { t.new ≡ (collecting_ends k s t.old).table }
-{
-    match k {
-        message::Kind::Esi => esi_on(s, t),
-        message::Kind::Suo => read_messages::quiet(suo_on(s, t)),
-        message::Kind::Var => var_on(s, t),
-    }
-}
-
 // A record's end.
+#[tactic(auto, unfolding(session::specs::Events::record_ended, session::specs::Events::ends_in, session::specs::Events::silent))]
 pub fn record_ended(s: session::Session, t: &mut [u8]) -> session::Stepped
     ensures value { result ≡ (record_ended s t.old).out }
     ensures t_after { t.new ≡ (record_ended s t.old).table }
 {
-    let place = s.place;
-    match place {
+    match s.place {
         session::Place::BeforeEsi => first_ends(s, t),
         session::Place::Outside => outside_ends(s, t),
-        session::Place::Collecting(k) => collecting_ends(k, s, t),
+        session::Place::Collecting(k) => message_on(k, s, t),
         session::Place::InData => frame_ends(s, t),
         session::Place::Closed => read_messages::quiet(s),
     }
 }
 
 // A byte past the size limit: until an ESI is accepted the reply is an ESI.
+#[tactic(auto, unfolding(session::specs::Events::passed, session::specs::Events::passed_in, session::specs::Events::is_esi, ground::specs::Choice::pick))]
 pub fn size_passed(s: session::Session, t: &[u8]) -> session::Stepped
     ensures { result ≡ (passed s t.now).out }
 {
-    let place = s.place;
-    match place {
-        session::Place::BeforeEsi => read_messages::bare(t, s, false, 1034, session::closed_at(s)),
-        session::Place::Outside => read_messages::bare(t, s, true, 1034, session::closed_at(s)),
-        session::Place::Collecting(k) => {
-            let pte = !read_messages::is_esi(k);
-            read_messages::bare(t, s, pte, 1034, session::closed_at(s))
-        }
-        session::Place::InData => read_messages::bare(t, s, true, 1034, session::closed_at(s)),
+    match s.place {
         session::Place::Closed => read_messages::quiet(s),
+        session::Place::BeforeEsi | session::Place::Collecting(message::Kind::Esi) => {
+            read_messages::bare(t, s, false, 1034, session::closed_at(s))
+        }
+        _ => read_messages::bare(t, s, true, 1034, session::closed_at(s)),
     }
 }
 
 // A message cut short by the file's end.
+#[tactic(auto, unfolding(session::specs::Events::cut_short, crate::specs::Messages::message_done, session::specs::Events::bare_turn, session::specs::Events::replies))]
 fn cut_short(k: message::Kind, s: session::Session, t: &mut [u8]) -> session::Stepped
     ensures value { result ≡ (cut_short k s t.old).out }
     ensures t_after { t.new ≡ (cut_short k s t.old).table }
 {
     match k {
-        message::Kind::Esi => read_messages::esi_done(s, t, message::Extent::CutShort),
         message::Kind::Suo => read_messages::bare(t, s, true, 1032, session::closed_at(s)),
-        message::Kind::Var => read_messages::var_done(s, t, message::Extent::CutShort),
+        _ => message_done(k, message::Extent::CutShort, s, t),
     }
 }
 
 // The file's end.
+#[tactic(auto, unfolding(session::specs::Events::file_ended, session::specs::Events::finished_in, session::specs::Events::silent, session::specs::Events::bare_turn, session::specs::Events::replies))]
 pub fn file_ended(s: session::Session, t: &mut [u8]) -> session::Stepped
     ensures value { result ≡ (file_ended s t.old).out }
     ensures t_after { t.new ≡ (file_ended s t.old).table }
 {
-    let place = s.place;
-    match place {
-        session::Place::BeforeEsi => read_messages::quiet(s),
-        session::Place::Outside => read_messages::quiet(s),
+    match s.place {
         session::Place::Collecting(k) => cut_short(k, s, t),
         session::Place::InData => read_messages::bare(t, s, true, 1024, session::closed_at(s)),
-        session::Place::Closed => read_messages::quiet(s),
+        _ => read_messages::quiet(s),
     }
 }

@@ -27,14 +27,11 @@ pub struct Going {
 // ---- a reply
 
 // How many replies the buffers hold.
+#[tactic(auto, unfolding(crate::specs::Receiving::capacity, crate::specs::Receiving::smaller, ground::specs::Choice::pick))]
 fn capacity_of(replies: &[u8], places: &[u64]) -> usize
     ensures { result ≡ capacity replies.now places.now }
 {
-    let slots = replies.len() / 317;
-    if slots < places.len() {
-        return slots;
-    }
-    places.len()
+    (replies.len() / 317).min(places.len())
 }
 
 // Keeps reply number `count` and its place, if the buffers hold so many.
@@ -43,11 +40,10 @@ fn keep(replies: &mut [u8], places: &mut [u64], count: usize, at: usize, reply: 
     ensures { Adds (record { at = at; reply = reply.now } ∷ []) count replies.old places.old (count + 1)
         replies.new places.new }
 {
-    if capacity_of(replies, places) <= count {
-        return;
+    if count < capacity_of(replies, places) {
+        codec::write_bytes(replies, 317 * count, reply);
+        places[count] = at as u64;
     }
-    codec::write_bytes(replies, 317 * count, reply);
-    places[count] = at as u64;
 }
 
 // Keeps a call's reply, if it gave one, and counts it.
@@ -87,11 +83,10 @@ fn one_read(
 {
     let mut room = [0u8; 317];
     let a = calls::read(t, s, input, &mut room);
-    let session = a.session;
     let reached = at + a.taken;
     let more = note(replies, places, count, reached, room, a.length);
     Going {
-        session,
+        session: a.session,
         at: reached,
         count: more,
         finished: a.finished,
@@ -103,13 +98,7 @@ fn reach(at: usize, size: usize, end: usize) -> usize
     requires { at < end }
     ensures { (at < result) × (result ≤ end) }
 {
-    if size == 0 {
-        return at + 1;
-    }
-    if end - at < size {
-        return end;
-    }
-    at + size
+    at + size.clamp(1, end - at)
 }
 
 // Reads the file to its end, or until a read closes it.
@@ -129,6 +118,7 @@ fn read_all(
     let mut session = s;
     let mut at = 0;
     let mut count = 0;
+    // kept: no `for` goes on from the bytes that a read took, which may be fewer than it was given
     while at < file.len() {
         let to = reach(at, size, file.len());
         let g = one_read(t, session, &file[at..to], replies, places, at, count);
@@ -164,10 +154,9 @@ fn one_end(
 {
     let mut room = [0u8; 317];
     let a = calls::end(t, s, &mut room);
-    let session = a.session;
     let more = note(replies, places, count, at, room, a.length);
     Going {
-        session,
+        session: a.session,
         at,
         count: more,
         finished: a.finished,
@@ -189,13 +178,10 @@ fn end_all(
     ensures t_after { t.new ≡ (saw_end at s t.old).table }
 {
     let first = one_end(t, s, replies, places, at, count);
-    let is_last = first.finished;
-    if is_last {
+    if first.finished {
         return first.count;
     }
-    let later = first.session;
-    let second = one_end(t, later, replies, places, at, first.count);
-    second.count
+    one_end(t, first.session, replies, places, at, first.count).count
 }
 
 // ---- the whole file
@@ -227,16 +213,14 @@ pub fn receive(
             count: 0,
         };
     }
-    let s = a.session;
-    let g = read_all(t, s, file, size, replies, places);
+    let g = read_all(t, a.session, file, size, replies, places);
     if g.finished {
         return Received {
             refusal: 0,
             count: g.count as u64,
         };
     }
-    let last = g.session;
-    let count = end_all(t, last, replies, places, file.len(), g.count);
+    let count = end_all(t, g.session, replies, places, file.len(), g.count);
     Received {
         refusal: 0,
         count: count as u64,

@@ -2,7 +2,7 @@
 
 #![tactic(auto)]
 
-ghost use Rattle.std.specs.Prelude.{◌≡◌, min, take};
+ghost use Rattle.std.specs.Prelude.{◌≡◌, take};
 ghost use Rattle.whole_file.specs.Messages.{wanted_length};
 ghost use Rattle.whole_file.specs.WholeFile.{occasion};
 ghost use Rattle.session.specs.Events.{is_data, is_due, no_reply, nothing, placed, with_batch, judged, shut, keeps_on};
@@ -10,7 +10,7 @@ ghost use Rattle.session.specs.Machine.{opened, unopened, with_line};
 ghost use Rattle.session.specs.Ranges.{is_cut, is_closed, in_range, end_refused, read_refused};
 
 // The bytes' side: how many were taken, and whether a CR waits for the byte after it.
-#[derive(Clone, Copy)]
+#[derive(Clone, Copy, Debug, PartialEq, Eq)]
 pub struct Line {
     pub size: u32,
     pub cr: bool,
@@ -75,109 +75,63 @@ pub struct Stepped {
 
 // ---- where the reader stands
 
+#[tactic(auto, unfolding(crate::specs::Events::is_data))]
 pub fn is_data(p: Place) -> bool
     ensures { result ≡ is_data p }
 {
-    match p {
-        Place::BeforeEsi => false,
-        Place::Outside => false,
-        Place::Collecting(_) => false,
-        Place::InData => true,
-        Place::Closed => false,
-    }
+    matches!(p, Place::InData)
 }
 
+#[tactic(auto, unfolding(crate::specs::Ranges::is_closed))]
 pub fn is_closed(p: Place) -> bool
     ensures { result ≡ is_closed p }
 {
-    match p {
-        Place::BeforeEsi => false,
-        Place::Outside => false,
-        Place::Collecting(_) => false,
-        Place::InData => false,
-        Place::Closed => true,
-    }
+    matches!(p, Place::Closed)
 }
 
 // Whether the file's end has a reply to give there.
+#[tactic(auto, unfolding(crate::specs::Events::is_due))]
 pub fn is_due(p: Place) -> bool
     ensures { result ≡ is_due p }
 {
-    match p {
-        Place::BeforeEsi => false,
-        Place::Outside => false,
-        Place::Collecting(_) => true,
-        Place::InData => true,
-        Place::Closed => false,
-    }
+    matches!(p, Place::Collecting(_) | Place::InData)
 }
 
 // ---- which sessions a call takes
 
 // Whether a message was cut short by the file's end.
+#[tactic(auto, unfolding(crate::specs::Ranges::is_cut))]
 fn is_cut(extent: message::Extent) -> bool
     ensures { result ≡ is_cut extent }
 {
-    match extent {
-        message::Extent::Whole => false,
-        message::Extent::TooShort => false,
-        message::Extent::LengthNotDigits => false,
-        message::Extent::OtherLength => false,
-        message::Extent::CutShort => true,
-    }
+    matches!(extent, message::Extent::CutShort)
 }
 
 // Whether each number of a session lies in its range.
+#[tactic(auto, unfolding(crate::specs::Ranges::in_range, ground::specs::Choice::both, ground::specs::Choice::fails, ground::specs::Choice::between))]
 pub fn is_in_range(s: Session) -> bool
     ensures { result ≡ in_range s }
 {
-    let opening = s.opening;
-    let gathered = s.gathered;
-    let batch = s.batch;
-    let suo = batch.suo;
-    if !calendar::is_real_time(opening.time) {
-        return false;
-    }
-    if opening.kind < 1 {
-        return false;
-    }
-    if 16 < opening.kind {
-        return false;
-    }
-    if 500 < gathered.count {
-        return false;
-    }
-    let extent = suo.extent;
-    !is_cut(extent)
+    calendar::is_real_time(s.opening.time)
+        && (1..=16).contains(&s.opening.kind)
+        && s.gathered.count <= 500
+        && !is_cut(s.batch.suo.extent)
 }
 
 // Whether an end is refused (3): not open, closed, another day, a number out of its range.
+#[tactic(auto, unfolding(crate::specs::Ranges::end_refused, ground::specs::Choice::either, ground::specs::Choice::fails))]
 pub fn is_end_refused(s: Session, day: u32) -> bool
     ensures { result ≡ end_refused s day }
 {
-    let opening = s.opening;
-    let today = opening.today;
-    let place = s.place;
-    if !s.opened {
-        return true;
-    }
-    if is_closed(place) {
-        return true;
-    }
-    if today.yymmdd != day {
-        return true;
-    }
-    !is_in_range(s)
+    !s.opened || is_closed(s.place) || s.opening.today.yymmdd != day || !is_in_range(s)
 }
 
 // Whether a read is refused (3): also after an end.
+#[tactic(auto, unfolding(crate::specs::Ranges::read_refused, ground::specs::Choice::either))]
 pub fn is_read_refused(s: Session, day: u32) -> bool
     ensures { result ≡ read_refused s day }
 {
-    if s.ended {
-        return true;
-    }
-    is_end_refused(s, day)
+    s.ended || is_end_refused(s, day)
 }
 
 // ---- with its parts changed
@@ -186,7 +140,6 @@ pub fn is_read_refused(s: Session, day: u32) -> bool
 pub fn no_reply() -> Reply
     ensures { result ≡ no_reply }
 {
-    let contents = message::no_contents();
     Reply {
         given: false,
         answer: reply::Answering {
@@ -194,7 +147,7 @@ pub fn no_reply() -> Reply
             bare: false,
             code: 0,
             field: 0,
-            contents,
+            contents: message::no_contents(),
             time: 0,
             bank: [0; 25],
             software: [0; 16],
@@ -208,6 +161,7 @@ pub fn no_reply() -> Reply
 }
 
 // Nothing on its way.
+#[tactic(auto, unfolding(crate::specs::Events::nothing))]
 pub fn no_characters() -> Gathered
     ensures { result ≡ nothing }
 {
@@ -218,92 +172,67 @@ pub fn no_characters() -> Gathered
     }
 }
 
-fn least(a: usize, b: usize) -> usize
-    ensures { result ≡ min a b }
-{
-    if a <= b { a } else { b }
-}
-
 // The length that a message has to reach, by its first `count` characters.
 pub fn wanted_length(text: [u8; 161], count: usize) -> usize
     ensures { result ≡ wanted_length (take count text) }
 {
-    let from = least(5, count);
-    let to = least(8, count);
-    let stated = text::number(&text[from..to]);
-    if stated < 500 { stated as usize } else { 500 }
+    text::number(&text[count.min(5)..count.min(8)]).min(500) as usize
 }
 
+#[tactic(auto, unfolding(whole_file::specs::WholeFile::occasion))]
 pub fn occasion_of(o: opening::Opening, made: u64) -> checks::Occasion
     ensures { result ≡ occasion o made }
 {
-    let today = o.today;
     checks::Occasion {
-        today,
+        today: o.today,
         kind: o.kind,
         clock: o.clock,
         made,
     }
 }
 
+#[tactic(auto, unfolding(crate::specs::Events::placed))]
 pub fn at_place(s: Session, place: Place, told: bool, gathered: Gathered) -> Session
     ensures { result ≡ placed s place told gathered }
 {
-    let opening = s.opening;
-    let sender = s.sender;
-    let line = s.line;
-    let batch = s.batch;
     Session {
-        opened: s.opened,
-        ended: s.ended,
-        told,
-        opening,
-        made: s.made,
-        sender,
-        line,
         place,
+        told,
         gathered,
-        batch,
+        ..s
     }
 }
 
+#[tactic(auto, unfolding(crate::specs::Events::with_batch))]
 pub fn with_batch(s: Session, batch: Batch) -> Session
     ensures { result ≡ with_batch s batch }
 {
-    let mut after = s;
-    after.batch = batch;
-    after
+    Session { batch, ..s }
 }
 
+#[tactic(auto, unfolding(crate::specs::Machine::with_line))]
 pub fn with_line(s: Session, line: Line) -> Session
     ensures { result ≡ with_line s line }
 {
-    let mut after = s;
-    after.line = line;
-    after
+    Session { line, ..s }
 }
 
 // After a verdict.
+#[tactic(auto, unfolding(crate::specs::Events::judged))]
 pub fn after_verdict(s: Session, place: Place, made: u64, sender: [u8; 25]) -> Session
     ensures { result ≡ judged s place made sender }
 {
-    let opening = s.opening;
-    let line = s.line;
-    let batch = s.batch;
     Session {
-        opened: s.opened,
-        ended: s.ended,
         told: false,
-        opening,
         made,
         sender,
-        line,
         place,
         gathered: no_characters(),
-        batch,
+        ..s
     }
 }
 
+#[tactic(auto, unfolding(crate::specs::Events::shut))]
 pub fn closed_at(s: Session) -> Session
     ensures { result ≡ shut s }
 {
@@ -311,14 +240,15 @@ pub fn closed_at(s: Session) -> Session
 }
 
 // The message goes on with the next record.
+#[tactic(auto, unfolding(crate::specs::Events::keeps_on))]
 pub fn keeps_on(s: Session, k: message::Kind) -> Session
     ensures { result ≡ keeps_on s k }
 {
-    let gathered = s.gathered;
-    at_place(s, Place::Collecting(k), s.told, gathered)
+    at_place(s, Place::Collecting(k), s.told, s.gathered)
 }
 
 // The batch of no frame.
+#[tactic(auto, unfolding(crate::specs::Machine::unopened))]
 fn no_batch() -> Batch
     ensures { result ≡ unopened.batch }
 {
@@ -334,6 +264,7 @@ fn no_batch() -> Batch
 }
 
 // A file that was just opened.
+#[tactic(auto, unfolding(crate::specs::Machine::unopened, crate::specs::Machine::opened))]
 pub fn opened_file(opening: opening::Opening) -> Session
     ensures { result ≡ opened opening }
 {
@@ -352,24 +283,19 @@ pub fn opened_file(opening: opening::Opening) -> Session
 }
 
 // No file: what a refused opening hands back, with every number in its range.
+#[tactic(auto, unfolding(crate::specs::Machine::unopened, crate::specs::Machine::opened))]
 pub fn no_file() -> Session
     ensures { result ≡ unopened }
 {
+    let opening = opening::Opening {
+        today: calendar::Date { yymmdd: 800101 },
+        time: 0,
+        kind: 1,
+        clock: 0,
+    };
     Session {
         opened: false,
-        ended: false,
-        told: false,
-        opening: opening::Opening {
-            today: calendar::Date { yymmdd: 800101 },
-            time: 0,
-            kind: 1,
-            clock: 0,
-        },
-        made: 0,
-        sender: [0; 25],
-        line: Line { size: 0, cr: false },
         place: Place::Closed,
-        gathered: no_characters(),
-        batch: no_batch(),
+        ..opened_file(opening)
     }
 }

@@ -1,5 +1,4 @@
 -- Each turn passes one whole record more.
-use Prim.Native.Nat.{◌-◌}
 use mathlib.Core.Path.{refl, ap, ◌∙◌}
 use native.Mathlib.Omega.{arith}
 use Rattle.ground.proofs.Bools.{passed}

@@ -1,6 +1,4 @@
 -- Each byte passed is neither LF nor CR, and the size limit has room for them all.
-use Prim.Native.Nat.{◌-◌}
-use mathlib.Core.Bool.{true}
 use native.Mathlib.Omega.{arith}
 use Rattle.read_bytes.proofs.Plainly.{none_yet, one_more, run_to, no_run}
 use borrow.Author.Rules.{rules}

@@ -10,7 +10,7 @@ returns-then-from-p c =
     let p = c.requires in
     skims_records a.s a.input.now a.from
     (is_in_data a.s.place (sym c.is_data.ensures ∙ c.if-is_data.true))
-    c.if-gathered-eq0.true
+    c.if-s-eq0.true
     (p.2.none_waits p.3)
     (serves a.s a.boxes.now a.keys p.0 p.1)
     c.method-m.ensures

@@ -1,5 +1,5 @@
 -- What is left, from where the scan stands, gives the whole, and the round keys are those of the one-time key there.
-use Prim.Native.Nat.{◌+◌, ◌-◌}
+use Prim.Native.Nat.{◌+◌}
 use mathlib.Core.Path.{◌≡◌, refl, sym, ap, ◌∙◌}
 use native.Mathlib.Omega.{arith}
 use Rattle.des.specs.Des.{schedule_of}
@@ -59,11 +59,11 @@ parts : {x y : Scan} → x ≡ y → ((x.turn.out.session ≡ y.turn.out.session
     × (x.taken ≡ y.taken)) × (x.turn.table ≡ y.turn.table)
 parts e = rw e ((refl, refl, refl), refl)
 
-pub returns-then-reply : goal.returns-then-reply
+pub returns-then-x : goal.returns-then-x
 unfolding silent
-returns-then-reply c = let l = c.loop-i in
+returns-then-x c = let l = c.loop-i in
     let all = parts (replied c.args.input.now l.i l.at l.t c.loop-i-test.true (c.step-x.ensures.value, c.step-x.ensures.t_after)
-    c.if-reply.true ∙ l.invariant.4) in
+    c.if-x.true ∙ l.invariant.4) in
     record { session_value = all.0; t_after = all.1 }
 
 -- past a byte without a reply what is left gives the whole
@@ -71,7 +71,7 @@ went_on : (c : Else2) → left_at c.args.input.now (c.loop-i.i + 1) c.step-x.res
     ≡ scanned c.args.s c.args.t.now c.args.input.now
 went_on c =
     let l = c.loop-i in
-    goes_on c.args.input.now l.i l.at l.t c.loop-i-test.true (c.step-x.ensures.value, c.step-x.ensures.t_after) c.if-reply.false
+    goes_on c.args.input.now l.i l.at l.t c.loop-i-test.true (c.step-x.ensures.value, c.step-x.ensures.t_after) c.if-x.false
     ∙ l.invariant.4
 
 pub loop-i-preserved-then-next-key : goal.loop-i-preserved-then-next-key

@@ -3,8 +3,8 @@ use mathlib.Core.Path.{◌∙◌}
 use Rattle.read_bytes.proofs.Told.{hears, waits, none_waits}
 use Rattle.read_bytes.proofs.waiting_heard.Goals as goal
 
-pub returns-then-line : goal.returns-then-line
-returns-then-line c = c.hear.ensures ∙ hears _ _ _ _ c.requires ∙ waits _ _ c.if-line.true
+pub returns-then-s : goal.returns-then-s
+returns-then-s c = c.hear.ensures ∙ hears _ _ _ _ c.requires ∙ waits _ _ c.if-s.true
 
-pub returns : goal.returns
-returns c = none_waits _ _ c.if-line.false
+pub returns-else-s : goal.returns-else-s
+returns-else-s c = none_waits _ _ c.if-s.false

@@ -1,21 +1,12 @@
--- The record so far with the characters that are left is the record with all of them, and there is room for each.
-use mathlib.Core.Path.{refl, sym, ◌∙◌}
-use Prim.Native.Nat.{◌<◌, ◌-◌}
+-- There is room for all of them.
+use mathlib.Core.Path.{refl, ap}
 use native.Mathlib.Omega.{arith}
 use borrow.Author.Rules.{rules}
-use Rattle.read_characters.proofs.Gathering.{with_room, gathered_drop, gathered_done}
+use borrow.Rule.Slice.PartMut.{put_mid}
+use Rattle.read_characters.proofs.Gathering.{kept_all}
 use Rattle.read_characters.proofs.keep.Goals as goal
 
-pub loop-i-init : goal.loop-i-init
-loop-i-init c = let h = c.requires in (search rules, omega arith, refl)
-
-pub loop-i-preserved : goal.loop-i-preserved
-loop-i-preserved c =
-    let k : c.loop-i.count < 161 = omega arith in (
-      search rules,
-      omega arith,
-      gathered_drop _ _ _ c.loop-i-test.true (with_room _ _ k refl refl refl) ∙ c.loop-i.invariant.2,
-    )
-
 pub returns : goal.returns
-returns c = sym (gathered_done _ _ _ c.loop-i-test.false) ∙ c.loop-i.invariant.2
+returns c =
+    let g = c.args.g in
+    kept_all g c.args.bytes.now _ _ _ refl c.requires (search rules) (omega arith) (ap (put_mid g.count _ g.text) c.copy_from_slice.ensures.after)

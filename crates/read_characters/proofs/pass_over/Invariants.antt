@@ -1,15 +1,11 @@
 use mathlib.Core.Path.{◌≡◌}
-use Prim.Native.Nat.{◌≤◌, ◌-◌}
-use lib.ListN.{length, drop}
+use Prim.Native.Nat.{◌≤◌}
+use lib.ListN.{drop}
 use Rattle.session.specs.Events.{gathered_all}
 use Rattle.read_characters.proofs.pass_over.Given as goal
 
-abbrev pub invariant-loop-i : goal.invariant-loop-i
-invariant-loop-i l =
-    (l.i ≤ length l.bytes)
-    × (161 ≤ l.count)
-    × (gathered_all (record { count = l.count; blank = l.blank; text = l.text }) (drop l.i l.bytes)
-    ≡ gathered_all (record { count = l.initial.count; blank = l.initial.blank; text = l.text }) l.bytes)
-
-abbrev pub decreases-loop-i : goal.decreases-loop-i
-decreases-loop-i l = length l.bytes - l.i
+abbrev pub invariant-loop-b : goal.invariant-loop-b
+invariant-loop-b l =
+    (161 ≤ l.count)
+    × (gathered_all (record { count = l.count; blank = l.blank; text = l.g.text }) (drop l.b-index l.bytes)
+    ≡ gathered_all l.g l.bytes)

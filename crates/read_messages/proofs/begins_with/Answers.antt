@@ -1,20 +1,18 @@
 -- Five characters of what is kept are as many of the text, up to the count.
-use mathlib.Core.Path.{sym, ap, ◌∙◌}
+use mathlib.Core.Path.{◌≡◌, sym, ap, ◌∙◌}
 use mathlib.Core.List.{List}
-use Prim.Native.Nat.{ℕ}
+use Prim.Native.Nat.{ℕ, min}
+use native.Mathlib.Omega.{arith}
 use lib.ListN.{take}
-use lib.Seq.{length-take-le}
 use Rattle.ground.specs.Lists.{same}
 use Rattle.ground.proofs.Parts.{take_least}
-use borrow.Author.Rules.{rules}
+use Rattle.ground.proofs.Std.{same_is}
 use Rattle.read_messages.proofs.begins_with.Goals as goal
-
-pub slice_bounds-same_bytes-end : goal.slice_bounds-same_bytes-end
-slice_bounds-same_bytes-end c = sym (length-take-le _ c.args.text (search rules))
 
 pub returns : goal.returns
 returns c =
-    c.same_bytes.ensures
+    let five : c.min.result ≡ min 5 c.args.count = omega arith in
+    c.eq.ensures
+    ∙ sym (same_is _ _)
     ∙ ap (λ (l : List ℕ). same l c.args.tag.now)
-    (ap (λ (i : ℕ). take i c.args.text) c.least-n.ensures
-    ∙ sym (take_least 5 c.args.count c.args.text))
+    (ap (λ (i : ℕ). take i c.args.text) five ∙ sym (take_least 5 c.args.count c.args.text))

@@ -5,4 +5,4 @@ use Rattle.read_messages.proofs.frame_by.Goals as goal
 pub returns : goal.returns
 returns c =
     frame_made _ _ c.joined_table-table.ensures c.key_or_0.ensures c.schedule-keys.ensures
-    c.finish-digest.ensures
+    c.finish.ensures

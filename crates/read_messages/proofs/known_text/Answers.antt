@@ -12,13 +12,13 @@ use Rattle.read_messages.proofs.known_text.Reads as reads
 use Rattle.read_messages.proofs.known_text.Tie as tie
 use Rattle.read_messages.proofs.known_text.Goals as goal
 
-abbrev After-least : Type 0
-After-least = lts.After-least tie.the-claims reads.Pre reads.Post
+abbrev After-min : Type 0
+After-min = lts.After-min tie.the-claims reads.Pre reads.Post
 
-within : (c : After-least) → c.least-n.result ≤ length c.args.text
+within : (c : After-min) → c.min-n.result ≤ length c.args.text
 within c =
     let e : length c.args.text ≡ 161 = search rules in
-    omega (arith, c.least-n.ensures, c.length_of.ensures, layout_within c.args.k)
+    omega (arith, c.min-n.ensures, c.length_of.ensures, layout_within c.args.k)
 
 pub slice_bounds-copy-end-2 : goal.slice_bounds-copy-end-2
 slice_bounds-copy-end-2 c = sym (length-take-le _ _ (within c.before.before))
@@ -27,7 +27,7 @@ pub returns : goal.returns
 returns c =
     let a = c.args in
     c.copy.ensures
-    ∙ known_is a.k a.count a.text _ (c.least-n.ensures ∙ ap (λ (m : ℕ). min m a.count) c.length_of.ensures)
+    ∙ known_is a.k a.count a.text _ (c.min-n.ensures ∙ ap (λ (m : ℕ). min m a.count) c.length_of.ensures)
 
 pub slice_bounds-text-end : goal.slice_bounds-text-end
 slice_bounds-text-end c = within c.before

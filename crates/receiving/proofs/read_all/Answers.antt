@@ -1,5 +1,4 @@
 -- All that the file gives is what was seen and what is to come; each read moves some of it over, and moves on by a byte at least.
-use Prim.Native.Nat.{◌-◌}
 use mathlib.Core.Path.{refl, sym, ◌∙◌}
 use mathlib.Core.Bool.{false≢true}
 use native.Mathlib.Omega.{arith}
