@@ -87,6 +87,5 @@ fn is_shown(rt: &HostRuntime, process: u32) -> bool {
 
 // The number of the process, in what is told.
 pub fn tell(rt: &HostRuntime, r: &Run) {
-    let process = r.process;
-    let _ = eprint!(rt; "process {process}");
+    let _ = eprint!(rt; "process {}", r.process);
 }
