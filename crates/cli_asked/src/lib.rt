@@ -3,6 +3,7 @@
 
 mod secret;
 
+use crate::secret::Wanted;
 use cli_terminal::options::Words;
 use cli_terminal::program::Program;
 use cli_terminal::status::{Status, Told};
@@ -72,21 +73,18 @@ pub fn is_in_utf8(rt: &HostRuntime, p: Program, name: &[u8], word: &[u8]) -> Res
     Err(Told)
 }
 
-// The number that a word was, or what is expected.
-fn number(
+// What a word said, or what is expected.
+fn said<T>(
     rt: &HostRuntime,
     p: Program,
-    value: Option<u32>,
+    value: Option<T>,
     name: &[u8],
     what: &[u8],
-) -> Result<u32, Told> {
-    match value {
-        Some(n) => Ok(n),
-        None => {
-            say::expected(rt, p, name, what);
-            Err(Told)
-        }
-    }
+) -> Result<T, Told> {
+    value.ok_or_else(|| {
+        say::expected(rt, p, name, what);
+        Told
+    })
 }
 
 // A word of `low` to `high` digits.
@@ -99,7 +97,7 @@ pub fn digits(
     name: &[u8],
     what: &[u8],
 ) -> Result<u32, Told> {
-    number(rt, p, cli_words::digits(word, low, high), name, what)
+    said(rt, p, cli_words::digits(word, low, high), name, what)
 }
 
 pub fn date(rt: &HostRuntime, p: Program, word: &[u8]) -> Result<u32, Told> {
@@ -119,25 +117,28 @@ fn is_source(rt: &HostRuntime, p: Program, name: &[u8], word: &[u8]) -> Result<(
 }
 
 // A value in hex digits.
-fn block(
-    rt: &HostRuntime,
-    p: Program,
-    word: &[u8],
-    width: usize,
-    name: &[u8],
-    what: &[u8],
-) -> Result<u64, Told> {
-    is_source(rt, p, name, word)?;
-    secret::block(rt, p, word, width, name, what)
+fn block(rt: &HostRuntime, p: Program, word: &[u8], wanted: Wanted) -> Result<u64, Told> {
+    is_source(rt, p, wanted.name, word)?;
+    secret::block(rt, p, word, wanted)
 }
 
 // A key, a clock value or a check value.
 pub fn key(rt: &HostRuntime, p: Program, word: &[u8], name: &[u8]) -> Result<u64, Told> {
-    block(rt, p, word, 16, name, b"16 hex digits, 0-9 and A-F")
+    let wanted = Wanted {
+        width: 16,
+        name,
+        what: b"16 hex digits, 0-9 and A-F",
+    };
+    block(rt, p, word, wanted)
 }
 
 pub fn check(rt: &HostRuntime, p: Program, word: &[u8]) -> Result<u64, Told> {
-    block(rt, p, word, 6, b"CHECK", b"6 hex digits, 0-9 and A-F")
+    let wanted = Wanted {
+        width: 6,
+        name: b"CHECK",
+        what: b"6 hex digits, 0-9 and A-F",
+    };
+    block(rt, p, word, wanted)
 }
 
 // Whether a word is no key itself: the program of the customer's side takes none from the command line.
@@ -162,12 +163,11 @@ pub fn hidden_key(rt: &HostRuntime, p: Program, word: &[u8], name: &[u8]) -> Res
 
 // Yes or no.
 pub fn choice(rt: &HostRuntime, p: Program, word: &[u8], name: &[u8]) -> Result<bool, Told> {
-    let value = number(rt, p, cli_words::choice(word), name, b"yes or no")?;
-    Ok(value == 1)
+    said(rt, p, cli_words::choice(word), name, b"yes or no")
 }
 
 pub fn types(rt: &HostRuntime, p: Program, word: &[u8]) -> Result<u32, Told> {
-    number(
+    said(
         rt,
         p,
         cli_words::types(word),
@@ -178,7 +178,7 @@ pub fn types(rt: &HostRuntime, p: Program, word: &[u8]) -> Result<u32, Told> {
 
 // Bytes a read.
 pub fn read_size(rt: &HostRuntime, p: Program, word: &[u8]) -> Result<u32, Told> {
-    number(
+    said(
         rt,
         p,
         cli_words::read_size(word),

@@ -5,7 +5,6 @@ ghost use Rattle.std.specs.Prelude.{◌≤◌, length};
 use cli_terminal::program::Program;
 use cli_terminal::say;
 use cli_terminal::status::Told;
-use std::fs::File;
 use std::io::{IsTerminal, Read};
 
 // One byte at a time, so that nothing past the line is taken from standard input.
@@ -21,13 +20,14 @@ fn next_byte<R: Read>(input: &mut R) -> Option<u8> {
 fn line<R: Read>(input: &mut R, room: &mut [u8]) -> usize
     ensures { result ≤ length room.new }
 {
-    for i in 0..room.len() {
+    let size = room.len();
+    for (i, place) in room.iter_mut().enumerate() {
         match next_byte(input) {
-            Some(b) if b != b'\n' => room[i] = b,
+            Some(b) if b != b'\n' => *place = b,
             _ => return i,
         }
     }
-    room.len()
+    size
 }
 
 // A line's hex digits.
@@ -37,89 +37,63 @@ fn line_of<R: Read>(input: &mut R, width: usize) -> Option<u64> {
     cli_words::hex_digits(cli_words::without_cr(&room[..n]), width)
 }
 
+// A value that is asked for: of how many hex digits, under which name, and what is expected there.
+#[derive(Clone, Copy)]
+pub struct Wanted<'a> {
+    pub width: usize,
+    pub name: &'a [u8],
+    pub what: &'a [u8],
+}
+
 // The value, or what is expected and where.
 fn told(
     rt: &HostRuntime,
     p: Program,
     value: Option<u64>,
-    name: &[u8],
-    what: &[u8],
-    source: &[u8],
+    wanted: Wanted,
+    place: &[u8],
 ) -> Result<u64, Told> {
-    match value {
-        Some(value) => Ok(value),
-        None => {
-            say::begin_line(rt, p);
-            say::err(rt, name);
-            say::err(rt, b": expected ");
-            say::err(rt, what);
-            say::err(rt, source);
-            say::end_line(rt);
-            Err(Told)
-        }
-    }
+    value.ok_or_else(|| {
+        say::begin_line(rt, p);
+        say::err(rt, wanted.name);
+        say::err(rt, b": expected ");
+        say::err(rt, wanted.what);
+        say::err(rt, place);
+        say::end_line(rt);
+        Told
+    })
 }
 
-fn from_input(
-    rt: &HostRuntime,
-    p: Program,
-    width: usize,
-    name: &[u8],
-    what: &[u8],
-) -> Result<u64, Told> {
+fn from_input(rt: &HostRuntime, p: Program, wanted: Wanted) -> Result<u64, Told> {
     let mut input = rt.stdin();
     if input.is_terminal() {
-        say::err(rt, name);
+        say::err(rt, wanted.name);
         say::err(rt, b": ");
     }
-    let value = line_of(&mut input, width);
+    let value = line_of(&mut input, wanted.width);
     told(
         rt,
         p,
         value,
-        name,
-        what,
+        wanted,
         b", as the next line of standard input",
     )
 }
 
 // A value that isn't one may be a file that can't be read: a folder can be opened and not read.
-fn told_of_file(
-    rt: &HostRuntime,
-    p: Program,
-    value: Option<u64>,
-    file: &mut File,
-    path: &[u8],
-    name: &[u8],
-    what: &[u8],
-) -> Result<u64, Told> {
+fn from_file(rt: &HostRuntime, p: Program, path: &[u8], wanted: Wanted) -> Result<u64, Told> {
+    let mut file = cli_files::open(rt, path).map_err(|e| {
+        say::trouble(rt, p, b"can't open the file that holds a key", path, &e);
+        Told
+    })?;
+    let value = line_of(&mut file, wanted.width);
     if value.is_none() {
-        if let Err(e) = file.read(&mut [0u8; 1]) {
+        file.read(&mut [0u8; 1]).map_err(|e| {
             say::trouble(rt, p, b"can't read the file that holds a key", path, &e);
-            return Err(Told);
-        }
+            Told
+        })?;
     }
-    told(rt, p, value, name, what, b", as the first line of its file")
-}
-
-fn from_file(
-    rt: &HostRuntime,
-    p: Program,
-    path: &[u8],
-    width: usize,
-    name: &[u8],
-    what: &[u8],
-) -> Result<u64, Told> {
-    match cli_files::open(rt, path) {
-        Ok(mut file) => {
-            let value = line_of(&mut file, width);
-            told_of_file(rt, p, value, &mut file, path, name, what)
-        }
-        Err(e) => {
-            say::trouble(rt, p, b"can't open the file that holds a key", path, &e);
-            Err(Told)
-        }
-    }
+    told(rt, p, value, wanted, b", as the first line of its file")
 }
 
 // Whether a word says where its value is, and is not the value.
@@ -128,20 +102,19 @@ pub fn is_elsewhere(word: &[u8]) -> bool {
 }
 
 // A word as a value of that many hex digits.
-pub fn block(
-    rt: &HostRuntime,
-    p: Program,
-    word: &[u8],
-    width: usize,
-    name: &[u8],
-    what: &[u8],
-) -> Result<u64, Told> {
+pub fn block(rt: &HostRuntime, p: Program, word: &[u8], wanted: Wanted) -> Result<u64, Told> {
     if let Some((&b'@', path)) = word.split_first() {
-        crate::is_in_utf8(rt, p, name, path)?;
-        return from_file(rt, p, path, width, name, what);
+        crate::is_in_utf8(rt, p, wanted.name, path)?;
+        return from_file(rt, p, path, wanted);
     }
     if word == b"-".as_slice() {
-        return from_input(rt, p, width, name, what);
+        return from_input(rt, p, wanted);
     }
-    told(rt, p, cli_words::hex_digits(word, width), name, what, b"")
+    told(
+        rt,
+        p,
+        cli_words::hex_digits(word, wanted.width),
+        wanted,
+        b"",
+    )
 }

@@ -143,13 +143,11 @@ pub fn read_over(
     what: &[u8],
     path: &[u8],
 ) -> Result<bool, Told> {
-    match file.read(&mut [0u8; 1]) {
-        Ok(more) => Ok(0 < more),
-        Err(e) => {
-            say::trouble(rt, p, what, path, &e);
-            Err(Told)
-        }
-    }
+    let more = file.read(&mut [0u8; 1]).map_err(|e| {
+        say::trouble(rt, p, what, path, &e);
+        Told
+    })?;
+    Ok(0 < more)
 }
 
 // Whether nothing was seen of a name because there is nothing.

@@ -7,16 +7,10 @@ ghost use Rattle.cli_days.specs.Far.{is_far};
 
 use calendar::Date;
 use cli_terminal::options::Words;
-use cli_terminal::program::Program;
+use cli_terminal::program::Program::Lentilpot;
 use cli_terminal::say;
 use cli_terminal::status::{Status, Told};
 use std::io;
-
-fn six_digits(n: u32) -> [u8; 6] {
-    let mut six = [0u8; 6];
-    text::write_number(&mut six, n as u64);
-    six
-}
 
 // ---- a day far past the table's
 
@@ -31,14 +25,10 @@ fn is_far(day: Date, today: Date) -> bool
 }
 
 fn tell_far(rt: &HostRuntime, day: Date, today: Date) {
-    say::begin_line(rt, Program::Lentilpot);
-    say::err(rt, b"DATE: ");
-    say::err(rt, &six_digits(today.yymmdd));
-    say::err(rt, b" is more than 31 days after the table's day ");
-    say::err(rt, &six_digits(day.yymmdd));
-    say::err(
-        rt,
-        b", to which it could not go back; nothing was changed: expected an earlier day, or --later if it is meant\n",
+    let (held, given) = (day.yymmdd, today.yymmdd);
+    say::begin_line(rt, Lentilpot);
+    let _ = eprintln!(rt;
+        "DATE: {given:06} is more than 31 days after the table's day {held:06}, to which it could not go back; nothing was changed: expected an earlier day, or --later if it is meant"
     );
 }
 
@@ -57,28 +47,17 @@ pub fn is_meant(rt: &HostRuntime, words: &Words, t: &[u8], today: Date) -> Resul
 
 // ---- refusal 4
 
-// A number that is no date or no time.
-fn unreal(rt: &HostRuntime, n: u32, what: &[u8]) -> io::Result<()> {
-    say::out(rt, b"refused 4: ")?;
-    say::out(rt, &six_digits(n))?;
-    say::out(rt, what)
-}
-
 // Which half of refusal 4 holds, and the table's day.
 fn answer_day(rt: &HostRuntime, day: Date, today: Date, time: u32) -> io::Result<()> {
-    if !today.is_real() {
-        unreal(rt, today.yymmdd, b" isn't a real date; the table's day is ")?;
+    let (n, what) = if !today.is_real() {
+        (today.yymmdd, "isn't a real date; the table's day is")
     } else if !calendar::is_real_time(time) {
-        unreal(rt, time, b" isn't a real time; the table's day is ")?;
+        (time, "isn't a real time; the table's day is")
     } else {
-        unreal(rt, today.yymmdd, b" is before the table's day ")?;
-    }
-    end_with_day(rt, day)
-}
-
-fn end_with_day(rt: &HostRuntime, day: Date) -> io::Result<()> {
-    say::out(rt, &six_digits(day.yymmdd))?;
-    say::out(rt, b"\n")
+        (today.yymmdd, "is before the table's day")
+    };
+    let held = day.yymmdd;
+    println!(rt; "refused 4: {n:06} {what} {held:06}")
 }
 
 // The answer line of a call on a table of that day.
@@ -90,44 +69,42 @@ pub fn answer(
     refusal: u32,
 ) -> Result<Status, Told> {
     if refusal != 4 {
-        return say::answer(rt, Program::Lentilpot, refusal);
+        return say::answer(rt, Lentilpot, refusal);
     }
-    say::refused_as(rt, Program::Lentilpot, answer_day(rt, day, today, time))
+    say::refused_as(rt, Lentilpot, answer_day(rt, day, today, time))
 }
 
 // The first of the holidays that isn't a real date.
 fn first_unreal(dates: &[u32]) -> u32 {
-    for &yymmdd in dates {
-        let d = Date { yymmdd };
-        if !d.is_real() {
-            return yymmdd;
-        }
+    let mut days = dates.iter().map(|&yymmdd| Date { yymmdd });
+    match days.find(|day| !day.is_real()) {
+        Some(day) => day.yymmdd,
+        None => 0,
     }
-    0
+}
+
+fn holiday(rt: &HostRuntime, yymmdd: u32) -> io::Result<()> {
+    println!(rt; "refused 4: {yymmdd:06}, a holiday, isn't a real date")
 }
 
 // The answer line of a set-up.
 pub fn answer_setup(rt: &HostRuntime, dates: &[u32], refusal: u32) -> Result<Status, Told> {
     if refusal != 4 {
-        return say::answer(rt, Program::Lentilpot, refusal);
+        return say::answer(rt, Lentilpot, refusal);
     }
-    say::refused_as(
-        rt,
-        Program::Lentilpot,
-        unreal(rt, first_unreal(dates), b", a holiday, isn't a real date\n"),
-    )
+    say::refused_as(rt, Lentilpot, holiday(rt, first_unreal(dates)))
 }
 
 // ---- refusal 12
 
-fn changeover(rt: &HostRuntime, kind: &[u8], last: Date) -> io::Result<()> {
-    say::out(rt, b"refused 12: the changeover from the previous ")?;
-    say::out(rt, kind)?;
-    say::out(rt, b" key is not past; its last day is ")?;
-    end_with_day(rt, last)
+fn changeover(rt: &HostRuntime, kind: &str, last: Date) -> io::Result<()> {
+    let last = last.yymmdd;
+    println!(rt;
+        "refused 12: the changeover from the previous {kind} key is not past; its last day is {last:06}"
+    )
 }
 
 // The answer line where a changeover of keys of that kind runs to that day.
-pub fn answer_changeover(rt: &HostRuntime, kind: &[u8], last: Date) -> Result<Status, Told> {
-    say::refused_as(rt, Program::Lentilpot, changeover(rt, kind, last))
+pub fn answer_changeover(rt: &HostRuntime, kind: &str, last: Date) -> Result<Status, Told> {
+    say::refused_as(rt, Lentilpot, changeover(rt, kind, last))
 }

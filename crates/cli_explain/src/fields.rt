@@ -1,185 +1,165 @@
 // The field that a notice names, and its contents as they were received.
 use crate::heard::Heard;
-use crate::parts::{code_of, key_of};
+use crate::parts::Reply;
 use cli_texts::room::trimmed;
-use cli_texts::sheet;
 use cli_texts::sheet::Sheet;
 
-// The fields of a message by their numbers, and the groups of fields 8, 9 and 12; where each begins and ends.
-const NUMBERS: [u32; 25] = [
-    10, 20, 30, 40, 50, 60, 70, 81, 82, 91, 92, 100, 110, 121, 122, 123, 130, 140, 150, 160, 170,
-    180, 80, 90, 120,
-];
-
-const STARTS: [usize; 25] = [
-    0, 5, 8, 11, 12, 16, 32, 35, 52, 60, 77, 85, 86, 87, 93, 99, 102, 103, 112, 128, 144, 160, 35,
-    60, 87,
-];
-
-const ENDS: [usize; 25] = [
-    5, 8, 11, 12, 16, 32, 35, 52, 60, 77, 85, 86, 87, 93, 99, 102, 103, 112, 128, 144, 160, 161,
-    60, 85, 102,
-];
-
-// 0, which no field has, past the last.
-fn number_of(i: usize) -> u32 {
-    if 25 <= i {
-        return 0;
-    }
-    NUMBERS[i]
+// A field of a message by its number, or a group of fields 8, 9 and 12; where it begins and ends.
+#[derive(Clone, Copy)]
+pub struct Field {
+    number: u32,
+    start: usize,
+    end: usize,
 }
 
-fn start_of(i: usize) -> usize {
-    if 25 <= i {
-        return 0;
-    }
-    STARTS[i]
-}
+const FIELDS: [(u32, usize, usize); 25] = [
+    (10, 0, 5),
+    (20, 5, 8),
+    (30, 8, 11),
+    (40, 11, 12),
+    (50, 12, 16),
+    (60, 16, 32),
+    (70, 32, 35),
+    (81, 35, 52),
+    (82, 52, 60),
+    (91, 60, 77),
+    (92, 77, 85),
+    (100, 85, 86),
+    (110, 86, 87),
+    (121, 87, 93),
+    (122, 93, 99),
+    (123, 99, 102),
+    (130, 102, 103),
+    (140, 103, 112),
+    (150, 112, 128),
+    (160, 128, 144),
+    (170, 144, 160),
+    (180, 160, 161),
+    (80, 35, 60),
+    (90, 60, 85),
+    (120, 87, 102),
+];
 
-fn end_of(i: usize) -> usize {
-    if 25 <= i {
-        return 0;
-    }
-    ENDS[i]
+// A code's notice on a field, without the field's contents: how long it is without the blanks at its end.
+fn notice_of(code: u32, field: u32) -> ([u8; 51], usize) {
+    let text = notice::text(code, field, message::no_contents());
+    (text, trimmed(&text))
 }
 
 // Whether a reply's notice, past its clock time, is that of a code on a field: after the name comes a blank.
-fn is_notice(r: [u8; 237], code: u32, field: u32) -> bool {
-    let text = notice::text(code, field, message::no_contents());
-    let n = trimmed(&text);
-    if 50 < n {
-        return false;
+fn is_notice(r: &Reply, code: u32, field: u32) -> bool {
+    let (text, n) = notice_of(code, field);
+    let shown = &r.text[186..];
+    match (text.get(..n), shown.get(n)) {
+        (Some(named), Some(&after)) => shown.starts_with(named) && after == b' ',
+        _ => false,
     }
-    let end = 186 + n;
-    text::same_bytes(&text[0..n], &r[186..end]) && r[end] == b' '
 }
 
-// The place of the field that a code's notice names, or 25.
-fn named_with(r: [u8; 237], code: u32) -> usize {
-    for i in 0..25 {
-        if is_notice(r, code, number_of(i)) {
-            return i;
+// The field that a code's notice names.
+fn named_with(r: &Reply, code: u32) -> Option<Field> {
+    for (number, start, end) in FIELDS {
+        if is_notice(r, code, number) {
+            return Some(Field { number, start, end });
         }
     }
-    25
+    None
 }
 
-// The place of the field that a reply names, or 25.
-pub fn named_in(r: [u8; 237]) -> usize {
-    match code_of(r) {
+// The field that a reply names.
+pub fn named_in(r: &Reply) -> Option<Field> {
+    match r.code() {
         1010 => named_with(r, 1010),
         1011 => named_with(r, 1011),
         1026 => named_with(r, 1026),
-        _ => 25,
+        _ => None,
     }
 }
 
-// A field's name, as the notice of 1010 has it past its twenty characters.
-fn name_of(i: usize) -> [u8; 237] {
-    let text = notice::text(1010, number_of(i), message::no_contents());
-    let mut out = [b' '; 237];
-    text::copy(&mut out, &text[20..35]);
-    out
+// Puts a field's name on the sheet, as the notice of 1010 has it past its twenty characters.
+fn put_name(s: &mut Sheet, field: Field) {
+    let (text, _) = notice_of(1010, field.number);
+    s.letters(b'f', &text[20..35]);
 }
 
 // ---- the contents that a notice of 1010 or 1011 shows
 
-// How long a code's text with a field's name is, without the field's contents.
-fn name_end(code: u32, field: u32) -> usize {
-    trimmed(&notice::text(code, field, message::no_contents()))
+fn is_format(r: &Reply) -> bool {
+    r.code() == 1010
 }
 
-// Where they begin: past the code's text, the field's name and a blank.
-fn value_start(r: [u8; 237], i: usize) -> usize {
-    let mut n = name_end(1011, number_of(i));
-    if is_format(r) {
-        n = name_end(1010, number_of(i));
-    }
-    n.wrapping_add(187)
-}
-
-fn is_format(r: [u8; 237]) -> bool {
-    code_of(r) == 1010
-}
-
-fn value_end(r: [u8; 237], i: usize) -> usize {
-    let width = end_of(i).wrapping_sub(start_of(i));
-    (value_start(r, i)).wrapping_add(width)
+// The notice from where they begin: past the code's text, the field's name and a blank.
+fn shown_of(r: &Reply, field: Field) -> &[u8] {
+    let (_, n) = notice_of(if is_format(r) { 1010 } else { 1011 }, field.number);
+    r.text[187..].get(n..).unwrap_or(b"")
 }
 
 // In quotes. Field 1 is that of a record, which may have fewer characters.
-fn with_value(before: Sheet, r: [u8; 237], i: usize) -> Sheet {
-    let from = value_start(r, i);
-    let to = value_end(r, i);
-    if i == 0 {
-        return sheet::with_name(before, b'h', r, from, to);
+fn put_value(s: &mut Sheet, r: &Reply, field: Field) {
+    let shown = shown_of(r, field);
+    let Some(value) = shown.get(..field.end.saturating_sub(field.start)) else {
+        return;
+    };
+    if field.number == 10 {
+        s.name(b'h', value);
+    } else {
+        s.quoted(b'h', value);
     }
-    sheet::with_quoted(before, b'h', r, from, to)
-}
-
-fn is_blank(r: [u8; 237], from: usize) -> bool {
-    if 237 < from {
-        return true;
-    }
-    text::all_blank(&r[from..])
-}
-
-fn is_digits(r: [u8; 237], from: usize) -> bool {
-    if 234 < from {
-        return false;
-    }
-    let to = from + 3;
-    text::all_digits(&r[from..to])
 }
 
 // ---- what is told of it
 
 // Name and contents by the reply alone. A reply of a release that showed no contents looks like one on a blank field.
-pub fn with_named(before: Sheet, r: [u8; 237], i: usize) -> Sheet {
-    if 25 <= i {
-        let unknown = sheet::with_words(before, b'f', b"that the notice names");
-        return sheet::with_words(unknown, b'h', b"as shown there");
-    }
-    let s = sheet::with_part(before, b'f', name_of(i), 0, 15, true);
-    if is_blank(r, value_start(r, i)) {
-        return sheet::with_words(
-            s,
+pub fn put_named(s: &mut Sheet, r: &Reply, field: Option<Field>) {
+    let Some(field) = field else {
+        s.part(b'f', b"that the notice names");
+        s.part(b'h', b"as shown there");
+        return;
+    };
+    put_name(s, field);
+    if text::all_blank(shown_of(r, field)) {
+        s.part(
             b'h',
             b"blanks (or contents that earlier releases didn't show)",
         );
+    } else {
+        put_value(s, r, field);
     }
-    with_value(s, r, i)
 }
 
 // Name and contents, the kind of the message that a fault of form is of, and what stands in the SUO and in the VAR.
-pub fn with_field(before: Sheet, h: Heard, r: [u8; 237], i: usize) -> Sheet {
-    let faulty = h.faulty;
-    let suo = h.answered;
-    let var = h.closing;
-    let from = start_of(i);
-    let to = end_of(i);
-    let mut s = sheet::with_part(before, b'k', faulty, 2, 5, false);
-    s = sheet::with_part(s, b'f', name_of(i), 0, 15, true);
-    s = with_value(s, r, i);
-    s = sheet::with_quoted(s, b'u', suo, from, to);
-    sheet::with_quoted(s, b'v', var, from, to)
+pub fn put_heard(s: &mut Sheet, h: &Heard, r: &Reply, field: Option<Field>) {
+    s.part(b'k', &h.faulty[2..5]);
+    let Some(field) = field else {
+        return;
+    };
+    put_name(s, field);
+    put_value(s, r, field);
+    if let (Some(suo), Some(var)) = (
+        h.answered.get(field.start..field.end),
+        h.closing.get(field.start..field.end),
+    ) {
+        s.quoted(b'u', suo);
+        s.quoted(b'v', var);
+    }
 }
 
 // The text for a reply: 1010 and 1011 have reasons of their own in field 1, and where the length is digits the fault of its format is what
 // follows the message.
-pub fn key_on(r: [u8; 237], i: usize) -> u64 {
-    if i == 0 {
-        if is_format(r) {
-            return cli_texts::NO_ESI;
+pub fn key_on(r: &Reply, field: Option<Field>) -> u64 {
+    match field {
+        Some(f) if f.number == 10 && is_format(r) => cli_texts::NO_ESI,
+        Some(f) if f.number == 10 => cli_texts::LATER_ESI,
+        Some(f) if f.number == 20 && is_format(r) && begins_with_length(shown_of(r, f)) => {
+            cli_texts::OVER
         }
-        return cli_texts::LATER_ESI;
+        _ => r.key(),
     }
-    if i == 1 {
-        if is_format(r) {
-            if is_digits(r, value_start(r, i)) {
-                return cli_texts::OVER;
-            }
-        }
+}
+
+fn begins_with_length(shown: &[u8]) -> bool {
+    match shown.get(..3) {
+        Some(length) => text::all_digits(length),
+        None => false,
     }
-    key_of(r)
 }

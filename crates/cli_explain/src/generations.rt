@@ -1,36 +1,26 @@
 // The generations of keys that a customer holds.
 use cli_texts::sheet::Sheet;
-use cli_texts::{Line, sheet};
+use cli_texts::{Line, add_text};
 
-fn with_previous(l: Line, before: Sheet, c: customer::Changeover) -> Line {
-    let last = c.last;
-    let mut s = sheet::with_number(before, b'p', c.generation as u64);
-    s = sheet::with_date(s, b'y', last);
-    cli_texts::with_text(l, s, cli_texts::PREVIOUS)
-}
-
-fn with_keys(l: Line, before: Sheet, k: customer::KeyPair) -> Line {
-    let previous = k.previous;
-    let s = sheet::with_number(before, b'g', k.generation as u64);
-    let current = cli_texts::with_text(l, s, cli_texts::HELD);
-    match previous {
-        None => current,
-        Some(c) => with_previous(current, s, c),
+fn add_keys(l: &mut Line, s: &mut Sheet, k: &customer::KeyPair) {
+    s.number(b'g', k.generation as u64);
+    add_text(l, s, cli_texts::HELD);
+    if let Some(previous) = k.previous {
+        s.number(b'p', previous.generation as u64);
+        s.date(b'y', previous.last);
+        add_text(l, s, cli_texts::PREVIOUS);
     }
 }
 
 // The generations of the kind that 1013 or 1014 is about; none where the sender is no customer.
-pub fn with_held(l: Line, s: Sheet, t: &[u8], who: [u8; 25], code: u64) -> Line {
-    let place = table::find(t, who);
-    let Some(i) = place else {
-        return l;
+pub fn add_held(l: &mut Line, s: &mut Sheet, t: &[u8], who: [u8; 25], code: u64) {
+    let Some(i) = table::find(t, who) else {
+        return;
     };
     let c = table::load(t, i);
-    let transport = c.transport;
-    let working = c.working;
     match code {
-        1013 => with_keys(l, s, transport),
-        1014 => with_keys(l, s, working),
-        _ => l,
+        1013 => add_keys(l, s, &c.transport),
+        1014 => add_keys(l, s, &c.working),
+        _ => {}
     }
 }

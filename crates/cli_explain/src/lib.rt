@@ -8,10 +8,12 @@ mod generations;
 mod heard;
 mod parts;
 
+use crate::fields::Field;
 use crate::heard::Heard;
-use crate::parts::{code_of, first_of, is_bare};
+use crate::parts::{Reply, Whom};
 use cli_texts::sheet::Sheet;
-use cli_texts::{Line, sheet, with_advice, with_text};
+use cli_texts::{Line, add_advice, add_text};
+use session::Session;
 use std::io;
 use std::io::{Read, Write};
 
@@ -56,133 +58,106 @@ impl From<io::Error> for Untold {
 
 // ---- the count
 
-pub fn no_count() -> Count {
-    Count {
-        accepted: 0,
-        refused: 0,
-        batches: 0,
+impl Count {
+    pub fn none() -> Count {
+        Count {
+            accepted: 0,
+            refused: 0,
+            batches: 0,
+        }
     }
-}
 
-fn one_if(is_so: bool) -> u64 {
-    if is_so { 1 } else { 0 }
-}
-
-fn counted_with(c: Count, r: [u8; 237]) -> Count {
-    let is_accepted = r[11] == b'K';
-    let accepted = one_if(is_accepted);
-    let refused = one_if(!is_accepted);
-    let batches = one_if(parts::about_of(r) == cli_texts::OF_BATCH);
-    Count {
-        accepted: c.accepted.wrapping_add(accepted),
-        refused: c.refused.wrapping_add(refused),
-        batches: c.batches.wrapping_add(batches),
+    // With one reply more.
+    pub fn with(self, reply: &[u8]) -> Count {
+        if reply.len() < 237 {
+            return self;
+        }
+        self.with_reply(&Reply::of(reply))
     }
-}
 
-// With one reply more.
-pub fn counted(c: Count, reply: &[u8]) -> Count {
-    if reply.len() < 237 {
-        return c;
+    fn with_reply(self, r: &Reply) -> Count {
+        Count {
+            accepted: self.accepted.wrapping_add(r.is_accepted() as u64),
+            refused: self.refused.wrapping_add(!r.is_accepted() as u64),
+            batches: self.batches.wrapping_add(r.is_of_batch() as u64),
+        }
     }
-    counted_with(c, first_of(reply))
 }
 
 // At the end: how many were accepted and refused.
 pub fn tell_count<W: Write>(out: &mut W, c: Count) -> io::Result<()> {
-    let mut s = sheet::with_number(sheet::blank(), b'a', c.accepted);
-    s = sheet::with_number(s, b'e', c.refused);
-    let l = with_text(cli_texts::no_line(), s, cli_texts::COUNT);
-    cli_texts::is_written(out, &l)
+    let mut s = Sheet::blank();
+    s.number(b'a', c.accepted);
+    s.number(b'e', c.refused);
+    let mut l = Line::blank();
+    add_text(&mut l, &s, cli_texts::COUNT);
+    cli_texts::write(out, &l)
 }
 
 // ---- a reply and its messages
 
 // Identity, qualifier and stamp as far as they came and can be shown.
-fn with_whom(l: Line, s: Sheet, m: [u8; 237], who: usize, key: u64) -> Line {
-    if !sheet::is_shown(m, who, who.wrapping_add(25)) {
-        return l;
+fn add_whom(l: &mut Line, s: &Sheet, whom: &Whom, key: u64) {
+    if whom.is_named() {
+        add_text(l, s, key);
+        if whom.is_stamped() {
+            add_text(l, s, cli_texts::STAMP);
+        }
     }
-    let named = with_text(l, s, key);
-    if !sheet::is_shown(m, 87, 102) {
-        return named;
-    }
-    with_text(named, s, cli_texts::STAMP)
 }
 
 // Whether a reply's code leaves open whether its message is well formed: then the fields may stand elsewhere.
-fn is_formless(r: [u8; 237]) -> bool {
-    match parts::key_of(r) {
-        1010 => true,
-        1011 => true,
-        1023 => true,
-        1024 => true,
-        1032 => true,
-        cli_texts::TOO_LARGE => true,
-        _ => false,
-    }
+fn is_formless(r: &Reply) -> bool {
+    matches!(
+        r.key(),
+        1010 | 1011 | 1023 | 1024 | 1032 | cli_texts::TOO_LARGE
+    )
 }
 
-// Those of a full reply are its own, those of a bare one the message's; where the message may not be well formed the file's ESI is named.
-fn with_customer(l: Line, s: Sheet, r: [u8; 237], m: [u8; 237]) -> Line {
-    if !is_bare(r) {
-        return with_whom(l, s, r, 35, cli_texts::CUSTOMER);
+// Whom a full reply names; for a bare one whom the message does, or, where that may not be well formed, the file's ESI.
+fn whom_of(r: &Reply, m: &[u8; 161], sender: &[u8; 25]) -> Whom {
+    if !r.is_bare() {
+        return r.whom();
     }
     if is_formless(r) {
-        if parts::is_esi(r) {
-            return l;
+        return Whom::of(sender, b"");
+    }
+    Whom::of(&m[60..85], &m[87..102])
+}
+
+fn add_customer(l: &mut Line, s: &Sheet, r: &Reply, whom: &Whom) {
+    if r.is_bare() && is_formless(r) {
+        if !r.is_esi() {
+            add_text(l, s, cli_texts::SENDER);
         }
-        return with_text(l, s, cli_texts::SENDER);
+    } else if r.is_bare() && r.code() == 1033 {
+        add_whom(l, s, whom, cli_texts::IDENTITY);
+    } else {
+        add_whom(l, s, whom, cli_texts::CUSTOMER);
     }
-    if code_of(r) == 1033 {
-        return with_whom(l, s, m, 60, cli_texts::IDENTITY);
-    }
-    with_whom(l, s, m, 60, cli_texts::CUSTOMER)
 }
 
-// Whom a reply answers: itself, the message, or the ESI's sender.
-fn whom_sheet(r: [u8; 237], batches: u64, m: [u8; 237], sender: [u8; 25]) -> Sheet {
-    if !is_bare(r) {
-        return parts::sheet_of(r, batches, r, 35);
-    }
-    if is_formless(r) {
-        return parts::sheet_of(r, batches, facts::placed(sender), 0);
-    }
-    parts::sheet_of(r, batches, m, 60)
+fn put_told(s: &mut Sheet, h: &Heard, r: &Reply, at: Settled, field: Option<Field>) {
+    s.number(b'l', at.line);
+    s.number(b'b', at.byte);
+    s.number(b'I', at.suo);
+    s.number(b'J', h.line);
+    s.number(b'K', at.var);
+    s.part(b't', &h.answered[85..86]);
+    s.part(b'w', &h.answered[86..87]);
+    fields::put_heard(s, h, r, field);
 }
 
-fn told_sheet(
-    h: Heard,
-    sender: [u8; 25],
-    r: [u8; 237],
-    batches: u64,
-    at: Settled,
-    i: usize,
-) -> Sheet {
-    let m = h.answered;
-    let mut s = whom_sheet(r, batches, m, sender);
-    s = sheet::with_number(s, b'l', at.line);
-    s = sheet::with_number(s, b'b', at.byte);
-    s = sheet::with_number(s, b'I', at.suo);
-    s = sheet::with_number(s, b'J', h.line);
-    s = sheet::with_number(s, b'K', at.var);
-    s = sheet::with_part(s, b't', m, 85, 86, false);
-    s = sheet::with_part(s, b'w', m, 86, 87, false);
-    fields::with_field(s, h, r, i)
-}
-
-fn sender_of(m: [u8; 237]) -> [u8; 25] {
+fn sender_of(m: &[u8; 161]) -> [u8; 25] {
     let mut out = [0u8; 25];
     text::copy(&mut out, &m[60..85]);
     out
 }
 
 // A batch has the lines from its SUO's first to where it was settled.
-fn place_key(r: [u8; 237], at: Settled) -> u64 {
-    if parts::about_of(r) == cli_texts::OF_BATCH {
-        if at.suo != at.line {
-            return cli_texts::LINES;
-        }
+fn place_key(r: &Reply, at: Settled) -> u64 {
+    if r.is_of_batch() && at.suo != at.line {
+        return cli_texts::LINES;
     }
     cli_texts::PLACE
 }
@@ -190,26 +165,28 @@ fn place_key(r: [u8; 237], at: Settled) -> u64 {
 fn told_line(
     t: &[u8],
     after: &[u8],
-    before: session::Session,
-    r: [u8; 237],
+    before: &Session,
+    r: &Reply,
     batches: u64,
     at: Settled,
 ) -> Line {
-    let h = heard::heard_of(before, parts::is_esi(r), at);
-    let m = h.answered;
-    let sender = before.sender;
-    let opening = before.opening;
-    let who = sender_of(m);
-    let i = fields::named_in(r);
+    let h = heard::heard_of(before, r.is_esi(), at);
+    let who = sender_of(&h.answered);
+    let whom = whom_of(r, &h.answered, &before.sender);
+    let field = fields::named_in(r);
     let f = facts::of(t, after, who);
-    let s = facts::with_facts(told_sheet(h, sender, r, batches, at, i), f, m, opening.kind);
-    let mut l = with_text(cli_texts::no_line(), s, cli_texts::BEGINNING);
-    l = with_text(l, s, parts::about_of(r));
-    l = with_text(l, s, place_key(r, at));
-    l = with_text(l, s, facts::key_of(f, r, fields::key_on(r, i)));
-    l = generations::with_held(l, s, t, who, code_of(r));
-    l = with_customer(l, s, r, m);
-    with_text(l, s, cli_texts::END)
+    let mut s = r.sheet(batches, &whom);
+    put_told(&mut s, &h, r, at, field);
+    f.put(&mut s, &h.answered, before.opening.kind);
+    let mut l = Line::blank();
+    add_text(&mut l, &s, cli_texts::BEGINNING);
+    add_text(&mut l, &s, r.about());
+    add_text(&mut l, &s, place_key(r, at));
+    add_text(&mut l, &s, f.key_of(r, fields::key_on(r, field)));
+    generations::add_held(&mut l, &mut s, t, who, r.code());
+    add_customer(&mut l, &s, r, &whom);
+    add_text(&mut l, &s, cli_texts::END);
+    l
 }
 
 // One reply: the line of the plain listing, then what is known of it. `t` and `after` are the table before and after it, `before` the
@@ -218,7 +195,7 @@ pub fn tell<W: Write>(
     out: &mut W,
     t: &[u8],
     after: &[u8],
-    before: session::Session,
+    before: Session,
     reply: &[u8],
     c: Count,
     at: Settled,
@@ -226,36 +203,39 @@ pub fn tell<W: Write>(
     if reply.len() < 237 {
         return Err(io::Error::from(io::ErrorKind::InvalidInput));
     }
-    let r = first_of(reply);
-    let l = told_line(t, after, before, r, c.batches, at);
-    cli_texts::is_written(out, &l)
+    let l = told_line(t, after, &before, &Reply::of(reply), c.batches, at);
+    cli_texts::write(out, &l)
 }
 
 // ---- a file of replies
 
 // Whom a full reply answers; field 18 is 1 where a key is enclosed.
-fn with_answered(l: Line, s: Sheet, r: [u8; 237]) -> Line {
-    if is_bare(r) {
-        return l;
+fn add_answered(l: &mut Line, s: &Sheet, r: &Reply) {
+    if !r.is_bare() {
+        let is_enclosed = r.text[160] == b'1';
+        let key = if is_enclosed {
+            cli_texts::ENCLOSED
+        } else {
+            cli_texts::ANSWERED
+        };
+        add_text(l, s, key);
     }
-    if r[160] == b'1' {
-        return with_text(l, s, cli_texts::ENCLOSED);
-    }
-    with_text(l, s, cli_texts::ANSWERED)
 }
 
-fn tell_one<W: Write>(out: &mut W, r: [u8; 237], c: Count) -> io::Result<()> {
+fn tell_one<W: Write>(out: &mut W, r: &Reply, c: Count) -> io::Result<()> {
     let before = c.accepted.wrapping_add(c.refused);
-    let i = fields::named_in(r);
-    let mut s = fields::with_named(parts::sheet_of(r, c.batches, r, 35), r, i);
-    s = sheet::with_number(s, b'o', before.wrapping_add(1));
-    let mut l = with_text(cli_texts::no_line(), s, cli_texts::NUMBER);
-    l = with_text(l, s, parts::about_of(r));
-    l = with_text(l, s, cli_texts::NOTICE);
-    l = with_answered(l, s, r);
-    l = with_advice(l, s, fields::key_on(r, i));
-    l = with_text(l, s, cli_texts::END);
-    cli_texts::is_written(out, &l)
+    let field = fields::named_in(r);
+    let mut s = r.sheet(c.batches, &r.whom());
+    fields::put_named(&mut s, r, field);
+    s.number(b'o', before.wrapping_add(1));
+    let mut l = Line::blank();
+    add_text(&mut l, &s, cli_texts::NUMBER);
+    add_text(&mut l, &s, r.about());
+    add_text(&mut l, &s, cli_texts::NOTICE);
+    add_answered(&mut l, &s, r);
+    add_advice(&mut l, &s, fields::key_on(r, field));
+    add_text(&mut l, &s, cli_texts::END);
+    cli_texts::write(out, &l)
 }
 
 // The next reply of the file, told; at its end how many they were is told, and there is none.
@@ -263,21 +243,21 @@ fn told_next<R: Read, W: Write>(
     input: &mut R,
     output: &mut W,
     count: Count,
-) -> Result<Option<[u8; 237]>, Untold> {
+) -> Result<Option<Reply>, Untold> {
     let Some(r) = file::read_next(input)? else {
         tell_count(output, count).map_err(|e| Untold::Unwritten(e))?;
         return Ok(None);
     };
-    tell_one(output, r, count).map_err(|e| Untold::Unwritten(e))?;
+    tell_one(output, &r, count).map_err(|e| Untold::Unwritten(e))?;
     Ok(Some(r))
 }
 
 // The replies of an open file, told to another, and how many they were.
 pub fn replies<R: Read, W: Write>(input: &mut R, output: &mut W) -> Result<Count, Unfinished> {
-    let mut count = no_count();
+    let mut count = Count::none();
     for _ in 0..u64::MAX {
         match told_next(input, output, count) {
-            Ok(Some(r)) => count = counted_with(count, r),
+            Ok(Some(r)) => count = count.with_reply(&r),
             Ok(None) => return Ok(count),
             Err(why) => return Err(Unfinished { why, count }),
         }

@@ -19,7 +19,7 @@ const REGULAR: u32 = 0o100000;
 const LINK: u32 = 0o120000;
 
 // What a name or an open file is. `mode` has the bits of the file's kind too.
-#[derive(Clone, Copy)]
+#[derive(Clone, Copy, Debug, PartialEq, Eq)]
 pub struct Seen {
     pub device: u64,
     pub inode: u64,
@@ -126,14 +126,8 @@ pub fn are_same(a: Option<Seen>, b: Option<Seen>) -> bool
 pub fn read_in<R: Read>(input: &mut R, room: &mut [u8]) -> io::Result<usize>
     ensures { IfOk result (λ n. n ≤ length room.new) }
 {
-    let mut count = 0;
-    while count < room.len() {
-        let n = input.read(&mut room[count..])?;
-        if n == 0 {
-            return Ok(count);
-        }
-        count += n;
-    }
+    let (count, ended) = fill(input, room);
+    ended?;
     Ok(count)
 }
 
@@ -141,12 +135,21 @@ pub fn read_in<R: Read>(input: &mut R, room: &mut [u8]) -> io::Result<usize>
 pub fn read_full<R: Read>(input: &mut R, room: &mut [u8]) -> usize
     ensures { result ≤ length room.new }
 {
-    let mut n = 0;
-    while n < room.len() {
-        match input.read(&mut room[n..]) {
-            Ok(got) if got > 0 => n += got,
-            _ => return n,
+    let (count, _) = fill(input, room);
+    count
+}
+
+// How many bytes were read, and whether the room's end or the file's ended them, or a read that failed.
+fn fill<R: Read>(input: &mut R, room: &mut [u8]) -> (usize, io::Result<()>)
+    ensures { result.0 ≤ length room.new }
+{
+    let mut count = 0;
+    while count < room.len() {
+        match input.read(&mut room[count..]) {
+            Ok(0) => break,
+            Ok(n) => count += n,
+            Err(e) => return (count, Err(e)),
         }
     }
-    n
+    (count, Ok(()))
 }

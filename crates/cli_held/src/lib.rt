@@ -45,7 +45,7 @@ pub fn is_saved(
         return Err(told);
     }
     let saved = cli_table::save(rt, p, table, &mut file, t, h.seen);
-    if let Saved::Not = saved {
+    if saved == Saved::Not {
         cli_table::give_up(rt, table, file);
     }
     release(rt, p, table, h);

@@ -6,33 +6,32 @@ use cli_terminal::program::Program;
 use cli_terminal::say;
 use cli_terminal::status::Told;
 
-// The number of the command that a word names, in the order of the list; 0 for none.
-pub fn command_of(word: &[u8]) -> u32 {
-    if text::same_bytes(word, b"setup") {
-        return 1;
+// The commands, in the order of the list.
+#[derive(Clone, Copy, Debug, PartialEq, Eq)]
+pub enum Command {
+    Setup,
+    Add,
+    Key,
+    Order,
+    Receive,
+    Show,
+    Explain,
+    Help,
+}
+
+// The command that a word names.
+pub fn command_of(word: &[u8]) -> Option<Command> {
+    match word {
+        b"setup" => Some(Command::Setup),
+        b"add" => Some(Command::Add),
+        b"key" => Some(Command::Key),
+        b"order" => Some(Command::Order),
+        b"receive" => Some(Command::Receive),
+        b"show" => Some(Command::Show),
+        b"explain" => Some(Command::Explain),
+        b"help" => Some(Command::Help),
+        _ => None,
     }
-    if text::same_bytes(word, b"add") {
-        return 2;
-    }
-    if text::same_bytes(word, b"key") {
-        return 3;
-    }
-    if text::same_bytes(word, b"order") {
-        return 4;
-    }
-    if text::same_bytes(word, b"receive") {
-        return 5;
-    }
-    if text::same_bytes(word, b"show") {
-        return 6;
-    }
-    if text::same_bytes(word, b"explain") {
-        return 7;
-    }
-    if text::same_bytes(word, b"help") {
-        return 8;
-    }
-    0
 }
 
 // The commands' names, for the line that says what was expected.
@@ -46,22 +45,24 @@ pub fn tell_names(rt: &HostRuntime) {
 }
 
 // The words of a command, as the end of a line.
-pub fn words_of(command: u32) -> &'static [u8] {
+pub fn words_of(command: Command) -> &'static [u8] {
     match command {
-        1 => b"setup TABLE BANK QUALIFIER SOFTWARE FLOOR K V [HOLIDAYS]\n",
-        2 =>
+        Command::Setup => b"setup TABLE BANK QUALIFIER SOFTWARE FLOOR K V [HOLIDAYS]\n",
+        Command::Add =>
             b"add TABLE DATE IDENTITY QUALIFIER PART1 PART2 CHECK GENERATION TYPES AGREED LEAVE [LENGTH] [--later]\n",
-        3 => b"key TABLE DATE IDENTITY QUALIFIER PART1 PART2 CHECK GENERATION [--later]\n",
-        4 => b"order TABLE DATE IDENTITY QUALIFIER CLOCK [--later]\n",
-        5 => b"receive TABLE DATE TIME TYPE CLOCK FILE REPLIES [READ] [--explain] [--later]\n",
-        6 => b"show TABLE [IDENTITY QUALIFIER]\n",
-        7 => b"explain REPLIES\n",
-        _ => b"help [COMMAND]\n",
+        Command::Key =>
+            b"key TABLE DATE IDENTITY QUALIFIER PART1 PART2 CHECK GENERATION [--later]\n",
+        Command::Order => b"order TABLE DATE IDENTITY QUALIFIER CLOCK [--later]\n",
+        Command::Receive =>
+            b"receive TABLE DATE TIME TYPE CLOCK FILE REPLIES [READ] [--explain] [--later]\n",
+        Command::Show => b"show TABLE [IDENTITY QUALIFIER]\n",
+        Command::Explain => b"explain REPLIES\n",
+        Command::Help => b"help [COMMAND]\n",
     }
 }
 
 // The same, to standard error.
-pub fn tell_words(rt: &HostRuntime, command: u32) {
+pub fn tell_words(rt: &HostRuntime, command: Command) {
     say::err(rt, words_of(command));
 }
 
@@ -69,7 +70,7 @@ pub fn tell_words(rt: &HostRuntime, command: u32) {
 pub fn are_as_many(
     rt: &HostRuntime,
     words: &Words,
-    command: u32,
+    command: Command,
     low: usize,
     high: usize,
 ) -> Result<(), Told> {
@@ -81,9 +82,10 @@ pub fn are_as_many(
 }
 
 // The help of one command.
-pub fn of(command: u32) -> &'static [u8] {
+pub fn of(command: Command) -> &'static [u8] {
     match command {
-        1 => b"usage: lentilpot setup TABLE BANK QUALIFIER SOFTWARE FLOOR K V [HOLIDAYS]
+        Command::Setup =>
+            b"usage: lentilpot setup TABLE BANK QUALIFIER SOFTWARE FLOOR K V [HOLIDAYS]
 
 Sets up a bank's table.
 TABLE is the name of a new file. A table is never replaced: its used stamps
@@ -143,7 +145,8 @@ after.
                 the whole
   --            ends the options, for a word that begins with two dashes
 ",
-        2 => b"usage: lentilpot add TABLE DATE IDENTITY QUALIFIER PART1 PART2 CHECK GENERATION
+        Command::Add =>
+            b"usage: lentilpot add TABLE DATE IDENTITY QUALIFIER PART1 PART2 CHECK GENERATION
            TYPES AGREED LEAVE [LENGTH] [--later]
 
 Adds a customer, with the first transport key.
@@ -220,7 +223,8 @@ and 'stty echo' after.
                 the whole
   --            ends the options, for a word that begins with two dashes
 ",
-        3 => b"usage: lentilpot key TABLE DATE IDENTITY QUALIFIER PART1 PART2 CHECK GENERATION
+        Command::Key =>
+            b"usage: lentilpot key TABLE DATE IDENTITY QUALIFIER PART1 PART2 CHECK GENERATION
            [--later]
 
 Enters a customer's next transport key.
@@ -261,7 +265,7 @@ and 'stty echo' after.
                 the whole
   --            ends the options, for a word that begins with two dashes
 ",
-        4 => b"usage: lentilpot order TABLE DATE IDENTITY QUALIFIER CLOCK [--later]
+        Command::Order => b"usage: lentilpot order TABLE DATE IDENTITY QUALIFIER CLOCK [--later]
 
 Orders a new working key for a customer.
 The customer gets it with the reply to the next message that is accepted under
@@ -296,7 +300,8 @@ after.
                 the whole
   --            ends the options, for a word that begins with two dashes
 ",
-        5 => b"usage: lentilpot receive TABLE DATE TIME TYPE CLOCK FILE REPLIES [READ]
+        Command::Receive =>
+            b"usage: lentilpot receive TABLE DATE TIME TYPE CLOCK FILE REPLIES [READ]
            [--explain] [--later]
 
 Receives a file and answers it.
@@ -362,7 +367,7 @@ after.
                 the whole
   --            ends the options, for a word that begins with two dashes
 ",
-        6 => b"usage: lentilpot show TABLE [IDENTITY QUALIFIER]
+        Command::Show => b"usage: lentilpot show TABLE [IDENTITY QUALIFIER]
 
 Shows what a table holds, or one customer of it.
 Keys are shown by their check values, never themselves. It may run beside any
@@ -380,7 +385,7 @@ message is accepted (E 1034) before some are.
                 the whole
   --            ends the options, for a word that begins with two dashes
 ",
-        7 => b"usage: lentilpot explain REPLIES
+        Command::Explain => b"usage: lentilpot explain REPLIES
 
 Says in words what the replies in a file tell.
 Beside each reply: what it is about, its notice, customer and stamp, and what
@@ -400,7 +405,7 @@ is 1 where some were.
                 the whole
   --            ends the options, for a word that begins with two dashes
 ",
-        _ => b"usage: lentilpot help [COMMAND]
+        Command::Help => b"usage: lentilpot help [COMMAND]
 
 Prints the help, whole or of one command.
 

@@ -4,73 +4,99 @@
 mod holidays;
 mod limits;
 
-use calendar::Date;
+use calendar::{CalendarDays, Date};
 use cli_held::Held;
+use cli_help::Command;
 use cli_terminal::options::Words;
-use cli_terminal::program::Program;
+use cli_terminal::program::Program::Lentilpot;
 use cli_terminal::say;
 use cli_terminal::status::{Status, Told};
 use table_calls::{Adding, Entering, Ordering, Setting};
 
 // Saves the table that a served call left, and answers.
 fn saved(rt: &HostRuntime, table: &[u8], t: &[u8], h: &Held) -> Result<Status, Told> {
-    cli_held::is_saved(rt, Program::Lentilpot, table, t, h)?;
-    say::answer(rt, Program::Lentilpot, 0)
+    cli_held::is_saved(rt, Lentilpot, table, t, h)?;
+    say::answer(rt, Lentilpot, 0)
 }
 
-// Answers a call on that day that was refused.
-fn refused(
-    rt: &HostRuntime,
-    table: &[u8],
-    t: &[u8],
-    h: &Held,
-    today: Date,
-    refusal: u32,
-) -> Result<Status, Told> {
-    cli_held::release(rt, Program::Lentilpot, table, h);
-    cli_days::answer(rt, table::day(t), today, 0, refusal)
-}
-
-// Takes the table and loads it for a call on that day; the lock stays only where that succeeds.
-fn loaded(
-    rt: &HostRuntime,
-    words: &Words,
-    table: &[u8],
-    t: &mut [u8],
-    today: Date,
-) -> Result<Held, Told> {
-    let h = cli_held::take(rt, Program::Lentilpot, table)?;
-    match load_meant(rt, words, table, t, today) {
-        Ok(()) => Ok(h),
-        Err(told) => {
-            cli_held::release(rt, Program::Lentilpot, table, &h);
-            Err(told)
-        }
-    }
-}
-
-fn load_meant(
+// Loads the table for a call on that day.
+fn load(
     rt: &HostRuntime,
     words: &Words,
     table: &[u8],
     t: &mut [u8],
     today: Date,
 ) -> Result<(), Told> {
-    cli_table::load(rt, Program::Lentilpot, table, t)?;
+    cli_table::load(rt, Lentilpot, table, t)?;
     cli_days::is_meant(rt, words, t, today)
+}
+
+// A call on that day on the table, which is taken for it and saved where it was served; `own` answers the refusals that are the command's
+// own.
+fn called<C: FnOnce(&mut [u8]) -> u32, O: FnOnce(&[u8], u32) -> Option<Result<Status, Told>>>(
+    rt: &HostRuntime,
+    words: &Words,
+    table: &[u8],
+    today: Date,
+    call: C,
+    own: O,
+) -> Result<Status, Told>
+    requires call { C.IsAlwaysCallable call }
+    requires own { O.IsAlwaysCallable own }
+{
+    let mut t = [0u8; 49152];
+    let h = cli_held::take(rt, Lentilpot, table)?;
+    if let Err(told) = load(rt, words, table, &mut t, today) {
+        cli_held::release(rt, Lentilpot, table, &h);
+        return Err(told);
+    }
+    let refusal = call(&mut t);
+    if refusal == 0 {
+        return saved(rt, table, &t, &h);
+    }
+    cli_held::release(rt, Lentilpot, table, &h);
+    match own(&t, refusal) {
+        Some(answered) => answered,
+        None => cli_days::answer(rt, table::day(&t), today, 0, refusal),
+    }
+}
+
+// The words of every command: as many as it takes, with no other options, and the table's name.
+fn named(
+    rt: &HostRuntime,
+    words: &Words,
+    command: Command,
+    low: usize,
+    high: usize,
+    options: &[u8],
+) -> Result<Vec<u8>, Told> {
+    cli_help::are_as_many(rt, words, command, low, high)?;
+    words.are_taken(rt, Lentilpot, options)?;
+    cli_names::of_kept(rt, Lentilpot, words.word(2), b"TABLE")
+}
+
+fn asked_day(rt: &HostRuntime, words: &Words) -> Result<Date, Told> {
+    let yymmdd = cli_asked::date(rt, Lentilpot, words.word(3))?;
+    Ok(Date { yymmdd })
+}
+
+fn asked_who(rt: &HostRuntime, words: &Words) -> Result<[u8; 25], Told> {
+    let (identity, qualifier) = (words.word(4), words.word(5));
+    cli_asked::who(
+        rt,
+        Lentilpot,
+        identity,
+        qualifier,
+        b"IDENTITY",
+        b"QUALIFIER",
+    )
 }
 
 // ---- setup
 
 pub fn setup(rt: &HostRuntime, words: &Words) -> Result<Status, Told> {
-    cli_help::are_as_many(rt, words, 1, 9, 10)?;
-    words.are_taken(rt, Program::Lentilpot, b"")?;
-    let table = cli_names::of_kept(rt, Program::Lentilpot, words.word(2), b"TABLE")?;
-    setup_words(rt, words, table.as_slice())
-}
-
-fn setup_words(rt: &HostRuntime, words: &Words, table: &[u8]) -> Result<Status, Told> {
-    let p = Program::Lentilpot;
+    let p = Lentilpot;
+    let table = named(rt, words, Command::Setup, 9, 10, b"")?;
     let bank = cli_asked::who(rt, p, words.word(3), words.word(4), b"BANK", b"QUALIFIER")?;
     let software = cli_asked::software(rt, p, words.word(5))?;
     let floor = cli_asked::digits(rt, p, words.word(6), 1, 9, b"FLOOR", b"110 or 120")?;
@@ -84,7 +110,7 @@ fn setup_words(rt: &HostRuntime, words: &Words, table: &[u8]) -> Result<Status, 
         key,
         seed,
     };
-    set_up(rt, table, &s, &d)
+    set_up(rt, &table, &s, &d)
 }
 
 fn set_up(
@@ -93,27 +119,17 @@ fn set_up(
     s: &Setting,
     d: &cli_words::Dates,
 ) -> Result<Status, Told> {
-    let h = cli_held::take(rt, Program::Lentilpot, table)?;
-    if let Err(told) = cli_table::is_free(rt, Program::Lentilpot, table) {
-        cli_held::release(rt, Program::Lentilpot, table, &h);
+    let mut t = [0u8; 49152];
+    let h = cli_held::take(rt, Lentilpot, table)?;
+    if let Err(told) = cli_table::is_free(rt, Lentilpot, table) {
+        cli_held::release(rt, Lentilpot, table, &h);
         return Err(told);
     }
-    set_up_held(rt, table, &h, s, d)
-}
-
-fn set_up_held(
-    rt: &HostRuntime,
-    table: &[u8],
-    h: &Held,
-    s: &Setting,
-    d: &cli_words::Dates,
-) -> Result<Status, Told> {
-    let mut t = [0u8; 49152];
     let refusal = set_up_with(&mut t, s, &d.dates, d.count);
     if refusal == 0 {
-        return saved(rt, table, &t, h);
+        return saved(rt, table, &t, &h);
     }
-    cli_held::release(rt, Program::Lentilpot, table, h);
+    cli_held::release(rt, Lentilpot, table, &h);
     if refusal == 11 {
         return limits::answer_setup(rt, s, d.count);
     }
@@ -123,7 +139,7 @@ fn set_up_held(
 // The first n dates are the holidays.
 fn set_up_with(t: &mut [u8], s: &Setting, dates: &[u32], n: usize) -> u32 {
     match dates.get(..n) {
-        Some(dates) => refusals::code(table_calls::set_up(t, *s, dates)),
+        Some(dates) => table_calls::set_up(t, *s, dates),
         None => 11,
     }
 }
@@ -131,38 +147,39 @@ fn set_up_with(t: &mut [u8], s: &Setting, dates: &[u32], n: usize) -> u32 {
 // ---- add
 
 // A changeover's length.
-fn length_of(rt: &HostRuntime, words: &Words, i: usize) -> Result<Option<calendar::CalendarDays>, Told> {
+fn asked_length(rt: &HostRuntime, words: &Words, i: usize) -> Result<Option<CalendarDays>, Told> {
     if words.count() <= i {
         return Ok(None);
     }
-    let days = cli_asked::digits(
-        rt,
-        Program::Lentilpot,
-        words.word(i),
-        1,
-        9,
-        b"LENGTH",
-        b"days, 1 to 60",
-    )?;
-    Ok(Some(calendar::CalendarDays(days)))
+    let what = b"days, 1 to 60";
+    let days = cli_asked::digits(rt, Lentilpot, words.word(i), 1, 9, b"LENGTH", what)?;
+    Ok(Some(CalendarDays(days)))
 }
 
 pub fn add(rt: &HostRuntime, words: &Words) -> Result<Status, Told> {
-    cli_help::are_as_many(rt, words, 2, 13, 14)?;
-    words.are_taken(rt, Program::Lentilpot, b"--later ")?;
-    let table = cli_names::of_kept(rt, Program::Lentilpot, words.word(2), b"TABLE")?;
-    add_words(rt, words, table.as_slice())
+    let table = named(rt, words, Command::Add, 13, 14, b"--later ")?;
+    let a = asked_customer(rt, words)?;
+    called(
+        rt,
+        words,
+        &table,
+        a.today,
+        |t| table_calls::add(t, a),
+        |_, refusal| match refusal {
+            11 => Some(limits::answer_add(rt, &a)),
+            _ => None,
+        },
+    )
 }
 
-fn add_words(rt: &HostRuntime, words: &Words, table: &[u8]) -> Result<Status, Told> {
-    let p = Program::Lentilpot;
+fn asked_customer(rt: &HostRuntime, words: &Words) -> Result<Adding, Told> {
     let e = asked_key(rt, words)?;
-    let types = cli_asked::types(rt, p, words.word(10))?;
-    let agreed = cli_asked::choice(rt, p, words.word(11), b"AGREED")?;
-    let leave = cli_asked::choice(rt, p, words.word(12), b"LEAVE")?;
-    let length = length_of(rt, words, 13)?;
+    let types = cli_asked::types(rt, Lentilpot, words.word(10))?;
+    let agreed = cli_asked::choice(rt, Lentilpot, words.word(11), b"AGREED")?;
+    let leave = cli_asked::choice(rt, Lentilpot, words.word(12), b"LEAVE")?;
+    let length = asked_length(rt, words, 13)?;
     let who = e.who;
-    let a = Adding {
+    Ok(Adding {
         today: e.today,
         who,
         part1: e.part1,
@@ -173,44 +190,21 @@ fn add_words(rt: &HostRuntime, words: &Words, table: &[u8]) -> Result<Status, To
         agreed,
         leave,
         length,
-    };
-    add_to(rt, words, table, a)
-}
-
-fn add_to(rt: &HostRuntime, words: &Words, table: &[u8], a: Adding) -> Result<Status, Told> {
-    let mut t = [0u8; 49152];
-    let h = loaded(rt, words, table, &mut t, a.today)?;
-    let refusal = refusals::code(table_calls::add(&mut t, a));
-    if refusal == 0 {
-        return saved(rt, table, &t, &h);
-    }
-    if refusal == 11 {
-        cli_held::release(rt, Program::Lentilpot, table, &h);
-        return limits::answer_add(rt, &a);
-    }
-    refused(rt, table, &t, &h, a.today, refusal)
+    })
 }
 
 // ---- key
 
 // The words that `add` and `key` share: DATE IDENTITY QUALIFIER PART1 PART2 CHECK GENERATION, from word 3 on.
 fn asked_key(rt: &HostRuntime, words: &Words) -> Result<Entering, Told> {
-    let p = Program::Lentilpot;
-    let day = cli_asked::date(rt, p, words.word(3))?;
-    let who = cli_asked::who(
-        rt,
-        p,
-        words.word(4),
-        words.word(5),
-        b"IDENTITY",
-        b"QUALIFIER",
-    )?;
-    let part1 = cli_asked::key(rt, p, words.word(6), b"PART1")?;
-    let part2 = cli_asked::key(rt, p, words.word(7), b"PART2")?;
-    let check = cli_asked::check(rt, p, words.word(8))?;
-    let generation = cli_asked::generation(rt, p, words.word(9))?;
+    let today = asked_day(rt, words)?;
+    let who = asked_who(rt, words)?;
+    let part1 = cli_asked::key(rt, Lentilpot, words.word(6), b"PART1")?;
+    let part2 = cli_asked::key(rt, Lentilpot, words.word(7), b"PART2")?;
+    let check = cli_asked::check(rt, Lentilpot, words.word(8))?;
+    let generation = cli_asked::generation(rt, Lentilpot, words.word(9))?;
     Ok(Entering {
-        today: Date { yymmdd: day },
+        today,
         who,
         part1,
         part2,
@@ -220,62 +214,38 @@ fn asked_key(rt: &HostRuntime, words: &Words) -> Result<Entering, Told> {
 }
 
 pub fn key(rt: &HostRuntime, words: &Words) -> Result<Status, Told> {
-    cli_help::are_as_many(rt, words, 3, 10, 10)?;
-    words.are_taken(rt, Program::Lentilpot, b"--later ")?;
-    let table = cli_names::of_kept(rt, Program::Lentilpot, words.word(2), b"TABLE")?;
+    let table = named(rt, words, Command::Key, 10, 10, b"--later ")?;
     let e = asked_key(rt, words)?;
-    enter(rt, words, table.as_slice(), e)
-}
-
-fn enter(rt: &HostRuntime, words: &Words, table: &[u8], e: Entering) -> Result<Status, Told> {
-    let mut t = [0u8; 49152];
-    let h = loaded(rt, words, table, &mut t, e.today)?;
-    let refusal = refusals::code(table_calls::enter(&mut t, e));
-    if refusal == 0 {
-        return saved(rt, table, &t, &h);
-    }
-    if refusal == 12 {
-        cli_held::release(rt, Program::Lentilpot, table, &h);
-        return limits::answer_transport(rt, &t, e.who);
-    }
-    refused(rt, table, &t, &h, e.today, refusal)
+    called(
+        rt,
+        words,
+        &table,
+        e.today,
+        |t| table_calls::enter(t, e),
+        |t, refusal| match refusal {
+            12 => Some(limits::answer_transport(rt, t, e.who)),
+            _ => None,
+        },
+    )
 }
 
 // ---- order
 
 pub fn order(rt: &HostRuntime, words: &Words) -> Result<Status, Told> {
-    cli_help::are_as_many(rt, words, 4, 7, 7)?;
-    words.are_taken(rt, Program::Lentilpot, b"--later ")?;
-    let table = cli_names::of_kept(rt, Program::Lentilpot, words.word(2), b"TABLE")?;
-    order_words(rt, words, table.as_slice())
-}
-
-fn order_words(rt: &HostRuntime, words: &Words, table: &[u8]) -> Result<Status, Told> {
-    let p = Program::Lentilpot;
-    let day = cli_asked::date(rt, p, words.word(3))?;
-    let who = cli_asked::who(
+    let table = named(rt, words, Command::Order, 7, 7, b"--later ")?;
+    let today = asked_day(rt, words)?;
+    let who = asked_who(rt, words)?;
+    let clock = cli_asked::key(rt, Lentilpot, words.word(6), b"CLOCK")?;
+    let o = Ordering { today, who, clock };
+    called(
         rt,
-        p,
-        words.word(4),
-        words.word(5),
-        b"IDENTITY",
-        b"QUALIFIER",
-    )?;
-    let clock = cli_asked::key(rt, p, words.word(6), b"CLOCK")?;
-    let today = Date { yymmdd: day };
-    order_in(rt, words, table, Ordering { today, who, clock })
-}
-
-fn order_in(rt: &HostRuntime, words: &Words, table: &[u8], o: Ordering) -> Result<Status, Told> {
-    let mut t = [0u8; 49152];
-    let h = loaded(rt, words, table, &mut t, o.today)?;
-    let refusal = refusals::code(table_calls::order(&mut t, o));
-    if refusal == 0 {
-        return saved(rt, table, &t, &h);
-    }
-    if refusal == 12 {
-        cli_held::release(rt, Program::Lentilpot, table, &h);
-        return limits::answer_working(rt, &t, o.who);
-    }
-    refused(rt, table, &t, &h, o.today, refusal)
+        words,
+        &table,
+        today,
+        |t| table_calls::order(t, o),
+        |t, refusal| match refusal {
+            12 => Some(limits::answer_working(rt, t, who)),
+            _ => None,
+        },
+    )
 }

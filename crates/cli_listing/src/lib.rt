@@ -3,7 +3,7 @@
 #![tactic(auto)]
 
 use cli_terminal::options::Words;
-use cli_terminal::program::Program;
+use cli_terminal::program::Program::Lentilpot;
 use cli_terminal::say;
 use cli_terminal::status::{Status, Told};
 use size_limit::Growing;
@@ -16,36 +16,9 @@ pub fn begin(rt: &HostRuntime, words: &Words, replies: &[u8]) -> Result<Option<G
     if !words.is_given(b"--explain") {
         return Ok(None);
     }
-    let file = cli_beside::nameless(
-        rt,
-        Program::Lentilpot,
-        b"nothing was changed: can't make a file for the explanations beside the replies",
-        replies,
-    )?;
+    let what = b"nothing was changed: can't make a file for the explanations beside the replies";
+    let file = cli_beside::nameless(rt, Lentilpot, what, replies)?;
     Ok(Some(Growing::new(rt, file)))
-}
-
-// ---- after the save
-
-fn of_counts(refused: u64) -> Status {
-    if refused == 0 {
-        return Status::Served;
-    }
-    Status::Refused
-}
-
-// A file without any message: what was done is said, since nothing is listed.
-fn tell_none(rt: &HostRuntime, file: &[u8], today: calendar::Date) {
-    let mut six = [0u8; 6];
-    text::write_number(&mut six, today.yymmdd as u64);
-    cli_beside::tell(
-        rt,
-        Program::Lentilpot,
-        file,
-        b"no message stood in it, so there is no reply; the table's day is now ",
-    );
-    say::err(rt, &six);
-    say::end_line(rt);
 }
 
 // ---- the replies, read back
@@ -57,122 +30,104 @@ struct Listed {
     refused: u64,
 }
 
-// What the next reply of the file is.
+// Why they can't be listed.
 #[derive(Drop)]
-enum Next {
-    Accepted,
-    Refused,
-    End,
+enum Unlisted {
     Unread(io::Error),
     Unwritten(io::Error),
 }
 
-// Reads the replies back, as they were saved, counts them and, where they are to be shown, lists them; what is the matter is told.
-fn list_replies(
-    rt: &HostRuntime,
-    file: &mut File,
-    replies: &[u8],
-    is_shown: bool,
-) -> Result<Listed, Told> {
+// An error on the way is one of reading; what is written is told by itself.
+impl From<io::Error> for Unlisted {
+    fn from(e: io::Error) -> Unlisted {
+        Unlisted::Unread(e)
+    }
+}
+
+// Reads the replies back, as they were saved, counts them and, where they are to be shown, lists them.
+fn list_replies(rt: &HostRuntime, file: &mut File, is_shown: bool) -> Result<Listed, Unlisted> {
     let mut l = Listed {
         replies: 0,
         refused: 0,
     };
     for _ in 0..u64::MAX {
-        match next_listed(rt, file, is_shown) {
-            Next::Accepted => l = more(l, 0),
-            Next::Refused => l = more(l, 1),
-            Next::End => return Ok(l),
-            Next::Unread(e) => {
-                tell_unread(rt, replies, &e);
-                return Err(Told);
-            }
-            Next::Unwritten(e) => {
-                tell_unwritten(rt, replies, &e);
-                return Err(Told);
-            }
+        let Some(head) = next_head(file)? else {
+            return Ok(l);
+        };
+        if is_shown {
+            show(rt, &head).map_err(|e| Unlisted::Unwritten(e))?;
         }
+        l = l.with(&head);
     }
-    Err(Told)
+    Err(Unlisted::Unread(io::Error::from(io::ErrorKind::FileTooLarge)))
 }
 
-fn tell_unread(rt: &HostRuntime, replies: &[u8], e: &io::Error) {
-    say::trouble(
-        rt,
-        Program::Lentilpot,
-        b"the table was saved and the replies are in this file, which can't be read back",
-        replies,
-        e,
-    );
+// A reply's K or E and its code.
+fn show(rt: &HostRuntime, head: &[u8; 16]) -> io::Result<()> {
+    let mut line = [b' '; 7];
+    line[0] = head[11];
+    line[2..6].copy_from_slice(&head[12..]);
+    line[6] = b'\n';
+    say::out(rt, &line)
 }
 
-fn tell_unwritten(rt: &HostRuntime, replies: &[u8], e: &io::Error) {
-    say::of_file(
-        rt,
-        Program::Lentilpot,
-        replies,
-        b"",
-        b"the table was saved and the replies are in this file; they can't be listed: ",
-    );
-    say::fail(rt, b"standard output", e);
-}
-
-fn more(l: Listed, refused: u64) -> Listed {
-    Listed {
-        replies: l.replies.wrapping_add(1),
-        refused: l.refused.wrapping_add(refused),
+impl Listed {
+    // With one reply more.
+    fn with(self, head: &[u8; 16]) -> Listed {
+        Listed {
+            replies: self.replies.wrapping_add(1),
+            refused: self.refused.wrapping_add((head[11] != b'K') as u64),
+        }
     }
 }
 
 // Reads as much as the room takes; false at the file's end.
 fn read_whole<R: Read>(input: &mut R, room: &mut [u8]) -> io::Result<bool> {
     let size = room.len();
-    let got = cli_files::read_in(input, room)?;
-    if got == size {
-        return Ok(true);
+    match cli_files::read_in(input, room)? {
+        got if got == size => Ok(true),
+        0 => Ok(false),
+        _ => Err(io::Error::from(io::ErrorKind::UnexpectedEof)),
     }
-    if got == 0 {
-        return Ok(false);
-    }
-    Err(io::Error::from(io::ErrorKind::UnexpectedEof))
 }
 
-// The next reply: K or E and the code.
-fn next_listed(rt: &HostRuntime, file: &mut File, is_shown: bool) -> Next {
+// The beginning of the next reply; none at the file's end.
+fn next_head(file: &mut File) -> io::Result<Option<[u8; 16]>> {
     let mut head = [0u8; 16];
-    match read_whole(file, &mut head) {
-        Ok(true) => {}
-        Ok(false) => return Next::End,
-        Err(e) => return Next::Unread(e),
+    if !read_whole(file, &mut head)? {
+        return Ok(None);
     }
-    if let Err(e) = read_rest(file, head[2]) {
-        return Next::Unread(e);
-    }
-    let line = [
-        head[11], b' ', head[12], head[13], head[14], head[15], b'\n',
-    ];
-    if is_shown {
-        if let Err(e) = say::out(rt, &line) {
-            return Next::Unwritten(e);
-        }
-    }
-    if head[11] == b'K' {
-        return Next::Accepted;
-    }
-    Next::Refused
+    pass_rest(file, head[2])?;
+    Ok(Some(head))
 }
 
 // The rest of an ESI of 237 or of a PTE of 317 characters, and its LF.
-fn read_rest(file: &mut File, kind: u8) -> io::Result<()> {
-    let is_whole = if kind == b'E' {
-        read_whole(file, &mut [0u8; 222])?
-    } else {
-        read_whole(file, &mut [0u8; 302])?
-    };
-    if is_whole {
+fn pass_rest(file: &mut File, kind: u8) -> io::Result<()> {
+    let mut room = [0u8; 302];
+    let size = if kind == b'E' { 222 } else { 302 };
+    if read_whole(file, &mut room[..size])? {
         return Ok(());
     }
     Err(io::Error::from(io::ErrorKind::UnexpectedEof))
+}
+
+fn tell_unread(rt: &HostRuntime, replies: &[u8], e: &io::Error) -> Told {
+    let what = b"the table was saved and the replies are in this file, which can't be read back";
+    say::trouble(rt, Lentilpot, what, replies, e);
+    Told
+}
+
+fn tell(rt: &HostRuntime, replies: &[u8], why: &Unlisted) -> Told {
+    match why {
+        Unlisted::Unread(e) => tell_unread(rt, replies, e),
+        Unlisted::Unwritten(e) => {
+            let what =
+                b"the table was saved and the replies are in this file; they can't be listed: ";
+            say::of_file(rt, Lentilpot, replies, b"", what);
+            say::fail(rt, b"standard output", e);
+            Told
+        }
+    }
 }
 
 // ---- the explanations
@@ -186,15 +141,21 @@ fn is_explained(
         return Ok(());
     };
     cli_beside::is_copied(rt, explanations.file_mut()).map_err(|e| {
-        say::trouble(
-            rt,
-            Program::Lentilpot,
-            b"the table was saved and the replies are in this file; the explanations can't be listed",
-            replies,
-            &e,
-        );
+        let what =
+            b"the table was saved and the replies are in this file; the explanations can't be listed";
+        say::trouble(rt, Lentilpot, what, replies, &e);
         Told
     })
+}
+
+// ---- the listing
+
+// A file without any message: what was done is said, since nothing is listed.
+fn tell_none(rt: &HostRuntime, file: &[u8], today: calendar::Date) {
+    let what = b"no message stood in it, so there is no reply; the table's day is now ";
+    cli_beside::tell(rt, Lentilpot, file, what);
+    let day = today.yymmdd;
+    let _ = eprintln!(rt; "{day:06}");
 }
 
 // Lists the replies; the status says whether some are refusals, or something could not be listed.
@@ -206,16 +167,16 @@ pub fn list(
     file: &[u8],
     today: calendar::Date,
 ) -> Result<Status, Told> {
-    let l = match listed {
-        Ok(mut listed) => list_replies(rt, &mut listed, replies, explanations.is_none())?,
-        Err(e) => {
-            tell_unread(rt, replies, &e);
-            return Err(Told);
-        }
-    };
+    let mut listed = listed.map_err(|e| tell_unread(rt, replies, &e))?;
+    let l = list_replies(rt, &mut listed, explanations.is_none()).map_err(|why| tell(
+        rt, replies, &why,
+    ))?;
     is_explained(rt, explanations, replies)?;
     if l.replies == 0 {
         tell_none(rt, file, today);
     }
-    Ok(of_counts(l.refused))
+    if l.refused == 0 {
+        return Ok(Status::Served);
+    }
+    Ok(Status::Refused)
 }

@@ -17,29 +17,30 @@ use std::io::{ErrorKind, Write};
 // Takes the table; where it can't be had, who has it is told.
 pub fn take(rt: &HostRuntime, p: Program, table: &[u8]) -> Result<Run, Told> {
     let r = cli_run::begun(rt, p)?;
-    match cli_beside::make(rt, table, b".lock") {
-        Ok(file) => sign(rt, p, table, file, &r)?,
-        Err(e) => {
-            tell_unmade(rt, p, table, &e);
-            return Err(Told);
-        }
-    }
+    let file = cli_beside::make(rt, table, b".lock").map_err(|e| {
+        tell_unmade(rt, p, table, &e);
+        Told
+    })?;
+    sign(rt, p, table, file, &r)?;
     Ok(r)
 }
 
 // Says in the lock whose it is.
 fn sign(rt: &HostRuntime, p: Program, table: &[u8], file: File, r: &Run) -> Result<(), Told> {
     let mut lock = Growing::new(rt, file);
-    put_run(&mut lock, r).map_err(|e| {
+    put(&mut lock, &[cli_run::line(r).as_slice()]).map_err(|e| {
         say::trouble_beside(rt, p, b"can't write the lock", table, b".lock", &e);
         let _ = cli_beside::remove(rt, table, b".lock");
         Told
     })
 }
 
-fn put_run(lock: &mut Growing, r: &Run) -> io::Result<()> {
-    lock.write_all(&cli_run::line(r))?;
-    lock.file().sync_all()
+// Writes the parts one after another, and flushes them.
+fn put(to: &mut Growing, parts: &[&[u8]]) -> io::Result<()> {
+    for part in parts {
+        to.write_all(part)?;
+    }
+    to.file().sync_all()
 }
 
 fn tell_unmade(rt: &HostRuntime, p: Program, table: &[u8], e: &io::Error) {
@@ -88,13 +89,7 @@ pub fn name_replies(rt: &HostRuntime, table: &[u8], replies: &[u8]) -> io::Resul
         .append(true)
         .open(rt, cli_files::as_path(&path)?)?;
     let mut lock = Growing::at_end(rt, file)?;
-    put_line(&mut lock, replies)
-}
-
-fn put_line(lock: &mut Growing, replies: &[u8]) -> io::Result<()> {
-    lock.write_all(replies)?;
-    lock.write_all(b"\n")?;
-    lock.file().sync_all()
+    put(&mut lock, &[replies, b"\n".as_slice()])
 }
 
 // Cuts the replies' name off again, in one step, which has to reach the disk before TABLE.new goes.
@@ -147,9 +142,14 @@ fn tell(rt: &HostRuntime, p: Program, table: &[u8]) {
 
 // Whether the lock of a table is of that run.
 pub fn is_of(rt: &HostRuntime, table: &[u8], r: &Run) -> bool {
-    let mut lock = [0u8; 65536];
-    let n = cli_beside::read_beside(rt, table, b".lock", &mut lock);
-    cli_run::read(&lock[..n]) == Some(*r)
+    is_signed(rt, table, b".lock", r)
+}
+
+// Whether the file beside a name says that it is of that run.
+fn is_signed(rt: &HostRuntime, name: &[u8], ending: &[u8], r: &Run) -> bool {
+    let mut file = [0u8; 65536];
+    let n = cli_beside::read_beside(rt, name, ending, &mut file);
+    cli_run::read(&file[..n]) == Some(*r)
 }
 
 // The lock's own name ends what is to be typed.
@@ -230,7 +230,13 @@ fn tell_unchanged(rt: &HostRuntime, p: Program, table: &[u8], replies: &[u8], r:
 }
 
 fn tell_saved(rt: &HostRuntime, p: Program, replies: &[u8], r: &Run) {
-    if !underway::is_of(rt, replies, r) && !cli_beside::is_there(rt, replies, b"") {
+    let is_under_way = underway::is_of(rt, replies, r);
+    if is_under_way && cli_beside::is_there(rt, replies, b".new") {
+        say::told(rt, p, b"saved the $k; its $w stand");
+        underway::tell_move(rt, replies, r);
+        return;
+    }
+    if !is_under_way && !cli_beside::is_there(rt, replies, b"") {
         say::told(rt, p, b"saved the $k; its $w are no longer in");
         say::quoted(rt, replies, b"");
         say::err(
@@ -239,19 +245,10 @@ fn tell_saved(rt: &HostRuntime, p: Program, replies: &[u8], r: &Run) {
         );
         return;
     }
-    if !underway::is_of(rt, replies, r) {
-        say::told(rt, p, b"saved the $k; its $w are in");
-        say::quoted(rt, replies, b"");
-        say::err(rt, b". To mend: rm");
-        return;
-    }
-    if !cli_beside::is_there(rt, replies, b".new") {
-        say::told(rt, p, b"saved the $k; its $w are in");
-        say::quoted(rt, replies, b"");
-        say::err(rt, b". To mend: rm");
+    say::told(rt, p, b"saved the $k; its $w are in");
+    say::quoted(rt, replies, b"");
+    say::err(rt, b". To mend: rm");
+    if is_under_way {
         say::quoted(rt, replies, b".run");
-        return;
     }
-    say::told(rt, p, b"saved the $k; its $w stand");
-    underway::tell_move(rt, replies, r);
 }

@@ -7,24 +7,17 @@ use cli_terminal::status::Told;
 use size_limit::Growing;
 use std::fs::File;
 use std::io;
-use std::io::{ErrorKind, Write};
+use std::io::ErrorKind;
 
 // Whether the replies under way are of that run.
 pub fn is_of(rt: &HostRuntime, replies: &[u8], r: &Run) -> bool {
-    if replies.is_empty() {
-        return false;
-    }
-    let mut file = [0u8; 65536];
-    let n = cli_beside::read_beside(rt, replies, b".run", &mut file);
-    cli_run::read(&file[..n]) == Some(*r)
+    !replies.is_empty() && crate::is_signed(rt, replies, b".run", r)
 }
 
 fn is_written(rt: &HostRuntime, file: File, table: &[u8], r: &Run) -> io::Result<()> {
     let mut file = Growing::new(rt, file);
-    file.write_all(&cli_run::line(r))?;
-    file.write_all(table)?;
-    file.write_all(b"\n")?;
-    file.file().sync_all()
+    let line = cli_run::line(r);
+    crate::put(&mut file, &[line.as_slice(), table, b"\n".as_slice()])
 }
 
 // Takes the replies' name for this run, or says who has it.
@@ -35,13 +28,10 @@ pub fn begin(
     table: &[u8],
     r: &Run,
 ) -> Result<(), Told> {
-    let file = match cli_beside::make(rt, replies, b".run") {
-        Ok(file) => file,
-        Err(e) => {
-            tell_unmade(rt, p, replies, &e);
-            return Err(Told);
-        }
-    };
+    let file = cli_beside::make(rt, replies, b".run").map_err(|e| {
+        tell_unmade(rt, p, replies, &e);
+        Told
+    })?;
     is_written(rt, file, table, r).map_err(|e| {
         say::trouble_beside(
             rt,

@@ -12,10 +12,6 @@ fn here(rt: &HostRuntime) -> Option<Vec<u8>> {
     cli_beside::beside(rt, folder.as_bytes(), b"/").ok()
 }
 
-fn is_whole(word: &[u8]) -> bool {
-    word.starts_with(b"/")
-}
-
 // A name that there is room for.
 fn made(
     rt: &HostRuntime,
@@ -49,7 +45,7 @@ fn below_here(rt: &HostRuntime, p: Program, label: &[u8], word: &[u8]) -> Result
 fn of_word(rt: &HostRuntime, p: Program, label: &[u8], word: &[u8]) -> Result<Vec<u8>, Told> {
     cli_asked::is_file(rt, p, label, word)?;
     cli_asked::is_in_utf8(rt, p, label, word)?;
-    if is_whole(word) {
+    if word.starts_with(b"/") {
         return made(rt, p, label, word, b"");
     }
     below_here(rt, p, label, word)
@@ -70,17 +66,18 @@ fn own_length(name: &[u8]) -> usize {
     }
 }
 
-// Whether the files beside a name have names that a folder takes, of at most 255 bytes.
-fn is_short(
+// A word as the name of a file beside which others have names that a folder takes, of at most 255 bytes.
+fn of_short(
     rt: &HostRuntime,
     p: Program,
+    word: &[u8],
     label: &[u8],
-    name: &[u8],
     most: usize,
     what: &[u8],
-) -> Result<(), Told> {
-    if own_length(name) <= most {
-        return Ok(());
+) -> Result<Vec<u8>, Told> {
+    let name = of(rt, p, word, label)?;
+    if own_length(&name) <= most {
+        return Ok(name);
     }
     say::expected(rt, p, label, what);
     Err(Told)
@@ -88,30 +85,14 @@ fn is_short(
 
 // A word as the name of a table or a desk, which gets endings of up to 11 bytes.
 pub fn of_kept(rt: &HostRuntime, p: Program, word: &[u8], label: &[u8]) -> Result<Vec<u8>, Told> {
-    let name = of(rt, p, word, label)?;
-    is_short(
-        rt,
-        p,
-        label,
-        &name,
-        244,
-        b"the name of a file, of at most 244 bytes past its folder",
-    )?;
-    Ok(name)
+    let what = b"the name of a file, of at most 244 bytes past its folder";
+    of_short(rt, p, word, label, 244, what)
 }
 
 // A word as the name of replies or messages to make, which get endings of up to 17 bytes.
 pub fn of_made(rt: &HostRuntime, p: Program, word: &[u8], label: &[u8]) -> Result<Vec<u8>, Told> {
-    let name = of(rt, p, word, label)?;
-    is_short(
-        rt,
-        p,
-        label,
-        &name,
-        238,
-        b"the name of a file, of at most 238 bytes past its folder",
-    )?;
-    Ok(name)
+    let what = b"the name of a file, of at most 238 bytes past its folder";
+    of_short(rt, p, word, label, 238, what)
 }
 
 // The same of the file to receive, of which `-` is standard input.

@@ -42,17 +42,11 @@ pub fn begin(
     table: &[u8],
     r: &Run,
 ) -> Result<Growing, Told> {
-    if let Err(e) = cli_lock::name_replies(rt, table, replies) {
-        say::trouble_beside(
-            rt,
-            p,
-            b"nothing was changed: can't write the lock",
-            table,
-            b".lock",
-            &e,
-        );
-        return Err(Told);
-    }
+    cli_lock::name_replies(rt, table, replies).map_err(|e| {
+        let what = b"nothing was changed: can't write the lock";
+        say::trouble_beside(rt, p, what, table, b".lock", &e);
+        Told
+    })?;
     underway::begin(rt, p, replies, table, r)?;
     match cli_beside::make(rt, replies, b".new") {
         Ok(file) => Ok(Growing::new(rt, file)),
@@ -151,7 +145,7 @@ fn saved(
         Ok(()) => cli_table::save(rt, p, table, &mut kept, t, seen),
         Err(Told) => Saved::Not,
     };
-    if let Saved::Not = saved {
+    if saved == Saved::Not {
         remove(rt, p, replies, out, r);
         undo(rt, p, table, kept, r);
     }
@@ -258,24 +252,14 @@ pub fn is_put(
 
 // Whether what was written, and its name, are on the disk.
 pub fn is_flushed(rt: &HostRuntime, p: Program, replies: &[u8], out: &File) -> Result<(), Told> {
-    if let Err(e) = out.sync_all() {
-        cli_beside::trouble_new(
-            rt,
-            p,
-            b"nothing was changed: can't flush the $w",
-            replies,
-            &e,
-        );
-        return Err(Told);
-    }
+    out.sync_all().map_err(|e| {
+        let what = b"nothing was changed: can't flush the $w";
+        cli_beside::trouble_new(rt, p, what, replies, &e);
+        Told
+    })?;
     cli_beside::flush_folder(rt, replies).map_err(|e| {
-        say::trouble(
-            rt,
-            p,
-            b"nothing was changed: can't flush the folder of the $w",
-            replies,
-            &e,
-        );
+        let what = b"nothing was changed: can't flush the folder of the $w";
+        say::trouble(rt, p, what, replies, &e);
         Told
     })
 }

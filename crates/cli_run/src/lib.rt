@@ -8,7 +8,7 @@ use std::process;
 use std::random::RandomSource;
 
 // A process, by its number, and the letters of its run.
-#[derive(Clone, Copy, PartialEq)]
+#[derive(Clone, Copy, Debug, PartialEq, Eq)]
 pub struct Run {
     pub process: u32,
     pub letters: [u8; 16],
@@ -21,10 +21,10 @@ fn letter(b: u8) -> u8 {
 // This process, on a run of its own.
 pub fn begun(rt: &HostRuntime, p: Program) -> Result<Run, Told> {
     let mut letters = [0u8; 16];
-    if let Err(e) = rt.fill_bytes(&mut letters) {
+    rt.fill_bytes(&mut letters).map_err(|e| {
         say::trouble(rt, p, b"can't begin a run", b"random bytes", &e);
-        return Err(Told);
-    }
+        Told
+    })?;
     for b in letters.iter_mut() {
         *b = letter(*b);
     }
@@ -36,7 +36,7 @@ pub fn begun(rt: &HostRuntime, p: Program) -> Result<Run, Told> {
 pub fn line(r: &Run) -> [u8; 28] {
     let mut line = [b' '; 28];
     text::write_number(&mut line[..10], r.process as u64);
-    text::copy(&mut line[11..27], &r.letters);
+    line[11..27].copy_from_slice(&r.letters);
     line[27] = b'\n';
     line
 }
@@ -44,32 +44,27 @@ pub fn line(r: &Run) -> [u8; 28] {
 // The letters as the ending of a name that no other run gives.
 pub fn ending(r: &Run) -> [u8; 17] {
     let mut ending = [b'.'; 17];
-    text::copy(&mut ending[1..], &r.letters);
+    ending[1..].copy_from_slice(&r.letters);
     ending
 }
 
 // What a file says, if it begins with such a line.
 pub fn read(file: &[u8]) -> Option<Run> {
-    if file.len() < 28 || file[10] != b' ' || file[27] != b'\n' {
+    let line = file.get(..28)?;
+    if line[10] != b' ' || line[27] != b'\n' {
         return None;
     }
-    let Some(process) = cli_words::digits(&file[0..10], 10, 10) else {
-        return None;
-    };
-    if process == 0 {
-        return None;
-    }
+    let process = cli_words::digits(&line[..10], 10, 10).filter(|&n| n != 0)?;
     let mut letters = [0u8; 16];
-    text::copy(&mut letters, &file[11..27]);
+    letters.copy_from_slice(&line[11..27]);
     Some(Run { process, letters })
 }
 
 // The name in the line after it; none where that line has no end.
 pub fn name(file: &[u8]) -> &[u8] {
-    if file.len() < 28 {
+    let Some(rest) = file.get(28..) else {
         return b"";
-    }
-    let rest = &file[28..];
+    };
     match rest.iter().position(|&b| b == b'\n') {
         Some(end) => &rest[..end],
         None => b"",
@@ -79,14 +74,7 @@ pub fn name(file: &[u8]) -> &[u8] {
 // Whether the process of a run lives. Where the system shows no other process, every one counts as living, so that no mend is told of what
 // may be held.
 pub fn is_living(rt: &HostRuntime, r: &Run) -> bool {
-    let process = r.process;
-    if 2147483647 < process {
-        return false;
-    }
-    if !is_shown(rt, 1) {
-        return true;
-    }
-    is_shown(rt, process)
+    r.process <= 2147483647 && (!is_shown(rt, 1) || is_shown(rt, r.process))
 }
 
 // Whether the system shows a process of that number; so too where it can't be asked.
@@ -99,6 +87,5 @@ fn is_shown(rt: &HostRuntime, process: u32) -> bool {
 
 // The number of the process, in what is told.
 pub fn tell(rt: &HostRuntime, r: &Run) {
-    let process = r.process;
-    let _ = eprint!(rt; "process {process}");
+    let _ = eprint!(rt; "process {}", r.process);
 }

@@ -3,7 +3,7 @@
 
 use cli_explain::Settled;
 use cli_passed::Passed;
-use cli_terminal::program::Program;
+use cli_terminal::program::Program::Lentilpot;
 use cli_terminal::say;
 use cli_terminal::status::Told;
 use session::Session;
@@ -14,7 +14,7 @@ pub fn is_told(rt: &HostRuntime, written: io::Result<()>, replies: &[u8]) -> Res
     written.map_err(|e| {
         say::trouble(
             rt,
-            Program::Lentilpot,
+            Lentilpot,
             b"nothing was changed: can't write the explanations beside the replies",
             replies,
             &e,
@@ -38,11 +38,11 @@ fn session_before(t: &mut [u8], s: Session, input: &[u8], n: usize) -> Session {
     }
 }
 
-// Explains a reply, if there is one, by the session just before the byte that settled it: the same read without that byte, on the
-// table as it was.
+// Explains a reply, if there is one and that is asked for, by the session just before the byte that settled it: the same read without that
+// byte, on the table as it was.
 pub fn is_step_explained(
     rt: &HostRuntime,
-    explanations: &mut Growing,
+    explanations: &mut Option<Growing>,
     replies: &[u8],
     before: &mut [u8],
     t: &[u8],
@@ -60,11 +60,20 @@ pub fn is_step_explained(
         return Err(Told);
     }
     let held = session_before(before, s, input, taken - 1);
-    let written = cli_explain::tell(explanations, before, t, held, reply, marked.count, at);
-    is_told(rt, written, replies)
+    is_end_explained(
+        rt,
+        explanations,
+        replies,
+        before,
+        t,
+        held,
+        marked,
+        at,
+        reply,
+    )
 }
 
-// The same of a reply that the file's end gives, where explanations are asked for.
+// The same of a reply that the file's end gives: by the session before it.
 pub fn is_end_explained(
     rt: &HostRuntime,
     explanations: &mut Option<Growing>,

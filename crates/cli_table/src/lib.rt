@@ -12,7 +12,7 @@ use std::io::ErrorKind;
 use std::os::unix::fs::{PermissionsExt, fchown};
 
 // How saving a table ended.
-#[derive(Clone, Copy)]
+#[derive(Clone, Copy, Debug, PartialEq, Eq)]
 pub enum Saved {
     Not,
     Unflushed,
@@ -46,13 +46,10 @@ fn is_alone(rt: &HostRuntime, p: Program, table: &[u8], seen: &Seen) -> Result<(
 // Opens a table, or says what is the matter where it is none.
 fn open_table(rt: &HostRuntime, p: Program, table: &[u8]) -> Result<File, Told> {
     let what = b"can't open the $k, expected a file of $n bytes, made by '$m'";
-    let seen = match cli_files::of_name(rt, table) {
-        Ok(seen) => seen,
-        Err(e) => {
-            say::trouble(rt, p, what, table, &e);
-            return Err(Told);
-        }
-    };
+    let seen = cli_files::of_name(rt, table).map_err(|e| {
+        say::trouble(rt, p, what, table, &e);
+        Told
+    })?;
     is_alone(rt, p, table, &seen)?;
     let file = cli_beside::open_told(rt, p, what, table)?;
     if !is_seen(&file, &seen) {
@@ -69,10 +66,7 @@ fn open_table(rt: &HostRuntime, p: Program, table: &[u8]) -> Result<File, Told> 
 
 // Whether an open file is the one that was seen.
 fn is_seen(file: &File, seen: &Seen) -> bool {
-    match cli_files::of_open(file) {
-        Ok(open) => cli_files::is_same(&open, seen),
-        Err(_) => false,
-    }
+    cli_files::are_same(cli_files::of_open(file).ok(), Some(*seen))
 }
 
 // Reads the table, which has to fill its room.
@@ -123,17 +117,15 @@ pub fn is_free(rt: &HostRuntime, p: Program, table: &[u8]) -> Result<(), Told> {
 // Makes TABLE.new. It is to hold keys, so it is its owner's alone from its first moment; later the table's owner's, and open to those that
 // the table is.
 pub fn begin(rt: &HostRuntime, p: Program, table: &[u8]) -> Result<File, Told> {
-    match cli_beside::make_private(rt, table, b".new") {
-        Ok(file) => match is_kept(rt, p, table, &file) {
-            Ok(()) => Ok(file),
-            Err(told) => {
-                give_up(rt, table, file);
-                Err(told)
-            }
-        },
-        Err(e) => {
-            tell_unmade(rt, p, table, &e);
-            Err(Told)
+    let file = cli_beside::make_private(rt, table, b".new").map_err(|e| {
+        tell_unmade(rt, p, table, &e);
+        Told
+    })?;
+    match is_kept(rt, p, table, &file) {
+        Ok(()) => Ok(file),
+        Err(told) => {
+            give_up(rt, table, file);
+            Err(told)
         }
     }
 }

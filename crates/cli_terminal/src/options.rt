@@ -80,28 +80,23 @@ impl Words {
         low: usize,
         high: usize,
     ) -> Result<(), Told> {
-        let n = self.count();
-        if n < low {
-            say::begin_line(rt, p);
-            say::err(rt, b"too few words: expected ");
-            return Err(Told);
-        }
-        if high < n {
-            say::begin_line(rt, p);
-            say::err(rt, b"too many words: expected ");
-            return Err(Told);
-        }
-        Ok(())
+        let what: &[u8] = if self.count() < low {
+            b"too few words: expected "
+        } else if high < self.count() {
+            b"too many words: expected "
+        } else {
+            return Ok(());
+        };
+        say::begin_line(rt, p);
+        say::err(rt, what);
+        Err(Told)
     }
 
     // Whether an option is given; it may also be one that begins with one dash.
     pub fn is_given(&self, option: &[u8]) -> bool {
-        for (i, word) in self.counted.iter().enumerate() {
-            if 0 < i && i < self.before_end && word.as_slice() == option {
-                return true;
-            }
-        }
-        self.options.iter().any(|given| given.as_slice() == option)
+        let mut others = self.counted.iter().take(self.before_end).skip(1);
+        others.any(|given| given.as_slice() == option)
+            || self.options.iter().any(|given| given.as_slice() == option)
     }
 
     // Whether every option is one that the command takes; a blank stands after each that it does.
@@ -118,12 +113,7 @@ impl Words {
 
 // Whether a word is one of a list, in which a blank stands after each.
 fn is_listed(word: &[u8], list: &[u8]) -> bool {
-    for listed in list.split(|&b| b == b' ') {
-        if listed == word {
-            return true;
-        }
-    }
-    false
+    list.split(|&b| b == b' ').any(|listed| listed == word)
 }
 
 fn tell_other(rt: &HostRuntime, p: Program, option: &[u8]) {

@@ -42,6 +42,8 @@ pub fn fail(rt: &HostRuntime, name: &[u8], e: &io::Error) {
 }
 
 // What a mark stands for: in the bank's program, and in the customer's.
+// kept: a text goes through `trouble`, `of_file` and `expected` as the bytes that the customer's crates give them too; formats would stand
+// at each of some fifty calls, with the same five words after each.
 fn mark(p: Program, m: u8) -> &'static [u8] {
     match m {
         b'k' => one_of(p, b"table", b"desk"),
@@ -126,18 +128,13 @@ pub fn of_file(rt: &HostRuntime, p: Program, path: &[u8], ending: &[u8], what: &
     told(rt, p, what);
 }
 
-// A byte of a name in quotes: a quote itself is written '\'' , so that what is told can be typed for any name.
-fn quoted_byte(rt: &HostRuntime, b: u8) {
-    if b == b'\'' {
-        err(rt, b"'\\''");
-        return;
-    }
-    err(rt, &[b]);
-}
-
+// A name in quotes: a quote itself is written '\'' , so that what is told can be typed for any name.
 fn inside_quotes(rt: &HostRuntime, name: &[u8]) {
     for &b in name {
-        quoted_byte(rt, b);
+        match b {
+            b'\'' => err(rt, b"'\\''"),
+            _ => err(rt, &[b]),
+        }
     }
 }
 

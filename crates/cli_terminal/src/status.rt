@@ -2,7 +2,7 @@
 ghost use Rattle.std.specs.Prelude.{◌<◌};
 
 // Served and every reply K; refused, or some reply E; trouble with words or files.
-#[derive(Clone, Copy)]
+#[derive(Clone, Copy, Debug, PartialEq, Eq)]
 pub enum Status {
     Served,
     Refused,
@@ -10,7 +10,7 @@ pub enum Status {
 }
 
 // What is the matter was told, and the command can't go on: it ends with trouble.
-#[derive(Clone, Copy)]
+#[derive(Clone, Copy, Debug, PartialEq, Eq)]
 pub struct Told;
 
 pub fn number(s: Status) -> u8

@@ -1,6 +1,80 @@
-// Characters put into lent room: each call answers where the next goes, and what is over is cut.
+// Characters put into a room, one after another: what is over is cut.
 
-pub fn put_byte(out: &mut [u8], at: usize, b: u8) -> usize {
+// Characters from a room's beginning on. The rest of it is blank, so that a column is reached by going on.
+#[derive(Clone, Copy)]
+pub struct Room<const N: usize> {
+    bytes: [u8; N],
+    end: usize,
+}
+
+impl<const N: usize> Room<N> {
+    pub fn blank() -> Room<N> {
+        Room {
+            bytes: [b' '; N],
+            end: 0,
+        }
+    }
+
+    // What was put.
+    pub fn bytes(&self) -> &[u8] {
+        match self.bytes.get(..self.end) {
+            Some(bytes) => bytes,
+            None => &self.bytes,
+        }
+    }
+
+    pub fn byte(&mut self, b: u8) {
+        self.end = put_byte(&mut self.bytes, self.end, b);
+    }
+
+    // Characters as they stand.
+    pub fn copy(&mut self, s: &[u8]) {
+        for &b in s {
+            self.byte(b);
+        }
+    }
+
+    // Characters as people are shown them.
+    pub fn shown(&mut self, s: &[u8], letters: bool) {
+        self.end = put_all(&mut self.bytes, self.end, s, letters);
+    }
+
+    pub fn number(&mut self, n: u64) {
+        let mut digits = [0u8; 20];
+        text::write_number(&mut digits, n);
+        self.copy(without_zeros(&digits));
+    }
+
+    // The data types of a mask, in which type k is bit k - 1.
+    pub fn types(&mut self, mask: u32) {
+        if mask == 0 {
+            self.copy(b"none");
+        }
+        let begun = self.end;
+        for k in 0u32..16 {
+            if mask >> k & 1 == 1 {
+                if begun < self.end {
+                    self.byte(b',');
+                }
+                self.number(k as u64 + 1);
+            }
+        }
+    }
+
+    // What was received, in quotes.
+    pub fn quoted(&mut self, s: &[u8]) {
+        self.byte(b'"');
+        self.shown(s, false);
+        self.byte(b'"');
+    }
+
+    // Goes on to a column, where that is still to come.
+    pub fn go_on_to(&mut self, column: usize) {
+        self.end = self.end.max(column);
+    }
+}
+
+fn put_byte(out: &mut [u8], at: usize, b: u8) -> usize {
     if out.len() <= at {
         return at;
     }
@@ -8,48 +82,29 @@ pub fn put_byte(out: &mut [u8], at: usize, b: u8) -> usize {
     at + 1
 }
 
-// A Latin-1 letter past ASCII, in UTF-8.
-fn put_letter(out: &mut [u8], at: usize, b: u8) -> usize {
-    if b < 0xC0 {
-        let next = put_byte(out, at, 0xC2);
-        return put_byte(out, next, b);
-    }
-    let next = put_byte(out, at, 0xC3);
-    put_byte(out, next, b - 0x40)
-}
-
-fn is_ascii(b: u8) -> bool {
-    if b < 0x20 {
-        return false;
-    }
-    b <= 0x7E
-}
-
 // A character as people are shown it: what a terminal might obey is '?', and so is a letter past ASCII where none is asked for.
-fn put_shown(out: &mut [u8], at: usize, b: u8, letters: bool) -> usize {
-    if is_ascii(b) {
-        return put_byte(out, at, b);
+fn shown(b: u8, letters: bool) -> char {
+    match b {
+        0x20..=0x7E => char::from(b),
+        0xA0..=0xFF if letters => char::from(b),
+        _ => '?',
     }
-    if letters {
-        if 0xA0 <= b {
-            return put_letter(out, at, b);
-        }
-    }
-    put_byte(out, at, b'?')
 }
 
+// Latin-1 characters, as they are shown, in UTF-8 from a place on, and the place after them.
 pub fn put_all(out: &mut [u8], at: usize, s: &[u8], letters: bool) -> usize {
     let mut end = at;
     for &b in s {
-        end = put_shown(out, end, b, letters);
+        for &part in shown(b, letters).encode_utf8(&mut [0u8; 4]).as_bytes() {
+            end = put_byte(out, end, part);
+        }
     }
     end
 }
 
-pub fn put_number(out: &mut [u8], at: usize, n: u64) -> usize {
-    let mut digits = [0u8; 20];
-    text::write_number(&mut digits, n);
-    put_all(out, at, without_zeros(&digits), false)
+// Whether all of it is shown as it stands.
+pub fn is_shown(s: &[u8]) -> bool {
+    s.iter().all(|&b| shown(b, false) == char::from(b))
 }
 
 // Digits without the zeros at their beginning; a last one stays.
@@ -58,48 +113,6 @@ fn without_zeros(digits: &[u8; 20]) -> &[u8] {
         Some(first) => &digits[first..],
         None => b"0",
     }
-}
-
-// A data type, after a comma where it isn't the first.
-fn put_type(out: &mut [u8], at: usize, k: u64, is_first: bool) -> usize {
-    if is_first {
-        return put_number(out, at, k);
-    }
-    let next = put_byte(out, at, b',');
-    put_number(out, next, k)
-}
-
-// A data type, if its bit is the lowest of what is left of the mask.
-fn put_bit(out: &mut [u8], at: usize, rest: u32, k: u64, is_first: bool) -> usize {
-    if rest % 2 == 0 {
-        return at;
-    }
-    put_type(out, at, k, is_first)
-}
-
-// The data types of a mask, in which type k is bit k - 1.
-fn put_listed(out: &mut [u8], at: usize, mask: u32) -> usize {
-    let mut end = at;
-    let mut rest = mask;
-    for k in 1..17 {
-        end = put_bit(out, end, rest, k, end == at);
-        rest = rest / 2;
-    }
-    end
-}
-
-pub fn put_types(out: &mut [u8], at: usize, mask: u32) -> usize {
-    if mask == 0 {
-        return put_all(out, at, b"none", false);
-    }
-    put_listed(out, at, mask)
-}
-
-// What was received, in quotes.
-pub fn put_quoted(out: &mut [u8], at: usize, s: &[u8]) -> usize {
-    let first = put_byte(out, at, b'"');
-    let end = put_all(out, first, s, false);
-    put_byte(out, end, b'"')
 }
 
 // How long a text is without the blanks at its end.

@@ -15,17 +15,10 @@ const FILE_TOO_LARGE: i32 = 27;
 
 // The soft limit in bytes, `None` for no limit, of the text of /proc/self/limits.
 pub fn of_text(text: &str) -> Option<u64> {
-    for line in text.lines() {
-        if let Some(rest) = line.strip_prefix("Max file size") {
-            return first_number(rest);
-        }
-    }
-    None
-}
-
-fn first_number(rest: &str) -> Option<u64> {
-    let word = rest.split_whitespace().next()?;
-    word.parse::<u64>().ok()
+    let rest = text
+        .lines()
+        .find_map(|line| line.strip_prefix("Max file size"))?;
+    rest.split_whitespace().next()?.parse::<u64>().ok()
 }
 
 // The limit of this process. Where the system doesn't tell it there is none.

@@ -1,6 +1,6 @@
 -- What was read is never more than the room, and each read that goes on leaves less of it.
 use Rattle.std.proofs.Common.{length, ◌-◌, ◌≤◌}
-use Rattle.cli_files.proofs.read_in.Given as goal
+use Rattle.cli_files.proofs.fill.Given as goal
 
 abbrev pub invariant-loop-count : goal.invariant-loop-count
 invariant-loop-count g l = l.count ≤ length l.room
