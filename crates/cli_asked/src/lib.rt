@@ -72,14 +72,14 @@ pub fn is_in_utf8(rt: &HostRuntime, p: Program, name: &[u8], word: &[u8]) -> Res
     Err(Told)
 }
 
-// The number that a word was, or what is expected.
-fn number(
+// What a word said, or what is expected.
+fn number<T>(
     rt: &HostRuntime,
     p: Program,
-    value: Option<u32>,
+    value: Option<T>,
     name: &[u8],
     what: &[u8],
-) -> Result<u32, Told> {
+) -> Result<T, Told> {
     match value {
         Some(n) => Ok(n),
         None => {
@@ -162,8 +162,7 @@ pub fn hidden_key(rt: &HostRuntime, p: Program, word: &[u8], name: &[u8]) -> Res
 
 // Yes or no.
 pub fn choice(rt: &HostRuntime, p: Program, word: &[u8], name: &[u8]) -> Result<bool, Told> {
-    let value = number(rt, p, cli_words::choice(word), name, b"yes or no")?;
-    Ok(value == 1)
+    number(rt, p, cli_words::choice(word), name, b"yes or no")
 }
 
 pub fn types(rt: &HostRuntime, p: Program, word: &[u8]) -> Result<u32, Told> {

@@ -3,6 +3,7 @@ use cli_terminal::options::Words;
 use cli_terminal::program::Program;
 use cli_terminal::say;
 use cli_terminal::status::Told;
+use cli_words::Dates;
 use std::fs::File;
 
 fn bad_line(rt: &HostRuntime, path: &[u8], line: u32) {
@@ -11,15 +12,18 @@ fn bad_line(rt: &HostRuntime, path: &[u8], line: u32) {
 }
 
 // The dates of a file of holidays; none where the word is left out.
-pub fn asked(rt: &HostRuntime, words: &Words, i: usize) -> Result<cli_words::Dates, Told> {
+pub fn asked(rt: &HostRuntime, words: &Words, i: usize) -> Result<Dates, Told> {
     if words.count() <= i {
-        return Ok(cli_words::holidays(b""));
+        return Ok(Dates {
+            count: 0,
+            dates: [0; 201],
+        });
     }
     let path = cli_names::of(rt, Program::Lentilpot, words.word(i), b"HOLIDAYS")?;
     read_holidays(rt, path.as_slice())
 }
 
-fn read_holidays(rt: &HostRuntime, path: &[u8]) -> Result<cli_words::Dates, Told> {
+fn read_holidays(rt: &HostRuntime, path: &[u8]) -> Result<Dates, Told> {
     let mut file = cli_beside::open_told(
         rt,
         Program::Lentilpot,
@@ -29,12 +33,13 @@ fn read_holidays(rt: &HostRuntime, path: &[u8]) -> Result<cli_words::Dates, Told
     let mut lines = [0u8; 4096];
     let n = cli_files::read_full(&mut file, &mut lines);
     is_end(rt, path, &mut file)?;
-    let d = cli_words::holidays(&lines[..n]);
-    if !d.good {
-        bad_line(rt, path, d.line);
-        return Err(Told);
+    match cli_words::holidays(&lines[..n]) {
+        Ok(dates) => Ok(dates),
+        Err(bad) => {
+            bad_line(rt, path, bad.line);
+            Err(Told)
+        }
     }
-    Ok(d)
 }
 
 // Whether all of the file was read.

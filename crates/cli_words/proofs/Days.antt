@@ -1,32 +1,18 @@
 -- A file of holidays, line by line: the dates kept so far and what the lines to come say make the whole.
 -- Assumes nothing.
-use Rattle.std.specs.Prelude.{None, Option, Some}
-use mathlib.Core.Path.{◌≡◌, refl, sym, ap, ap₂, subst, ◌∙◌}
-use mathlib.Core.Logic.{◌⊎◌, inl, inr}
-use mathlib.Core.Bool.{Bool, true, false}
-use mathlib.Core.List.{List, [], ◌∷◌, ◌++◌, map, append-nil}
-use Prim.Native.Nat.{ℕ, suc, ◌+◌, ◌-◌, ◌≤◌, ◌<◌}
-use native.Mathlib.Numerals.{add-one}
-use native.Mathlib.Omega.{arith}
-use borrow.Author.Tests.{eq-eqb, ne_eqb}
-use lib.Dec.{eqb}
-use lib.ListN.{length, take, drop, set, replicate, length-set, take-append-drop}
-use lib.Seq.{length-take-le, take-nil, take-suc-set, drop-set-lt, drop-drop, append_snoc}
-use Rattle.ground.specs.Choice.{pick}
+use Rattle.std.proofs.Common.{◌≡◌, ℕ, suc, ◌+◌, ◌-◌, ◌<◌, ◌≤◌, false, List, [], ◌∷◌, ◌++◌, map, length, take, drop, set, refl, sym, ap, ap₂, subst, ◌∙◌, None, Option, Some, Result, Ok, Err, MatchOption, Bor, arith, eqb, eq-eqb, ne_eqb, add-one, append-nil, length-set, length-take-le, take-append-drop, replicate}
+use lib.Seq.{take-nil, take-suc-set, drop-set-lt, drop-drop, append_snoc}
+use Rattle.std.specs.Option.{unwrap_or}
 use Rattle.ground.proofs.Choices.{picks, skips}
+use Rattle.cli_words.specs.declared.BadLine.{BadLine}
 use Rattle.cli_words.specs.declared.Dates.{Dates}
 use Rattle.cli_words.specs.Parts.{up_to, ended_by}
-use Rattle.cli_words.specs.Forms.{without_cr, date_of, leading, told}
-use Rattle.cli_words.proofs.Cuts.{ended_from, ended_none}
+use Rattle.cli_words.specs.Forms.{date_of, leading, told}
+use Rattle.cli_words.proofs.Cuts.{ended_more, ended_last}
 
-pub empty_line : (l : List ℕ) → length l ≡ 0 → without_cr l ≡ l
-unfolding without_cr pick
-empty_line [] e = refl
-empty_line (x ∷ l) e = let z : ◌≡◌ {A = ℕ} 0 1 = omega arith in cc
-
--- what the lines from a place on say, where so many are kept already
-abbrev pub rest : List ℕ → ℕ → ℕ → List (Option ℕ)
-rest s at count = map date_of (take (201 - count) (ended_by 0x0A (drop at s)))
+-- what the lines that are left say, where so many are kept already
+abbrev pub rest : List ℕ → ℕ → List (Option ℕ)
+rest left count = map date_of (take (201 - count) (ended_by 0x0A left))
 
 -- so many dates are kept, and zeros fill the places past them
 pub record Sofar (ns left : List (Option ℕ)) (dates : List ℕ) (count : ℕ) : Type 0 where
@@ -56,11 +42,11 @@ one_more ns left dates count n h s =
 
 -- ---- the end
 
-abbrev pub dated : Bool → ℕ → ℕ → List ℕ → Dates
-dated good line count dates = record { good = good; line = line; count = count; dates = dates }
+abbrev pub dated : ℕ → List ℕ → Result Dates BadLine
+dated count dates = Ok (record { count = count; dates = dates })
 
-alike : (g g' : Bool) (l l' c c' : ℕ) (d d' : List ℕ) → g ≡ g' → l ≡ l' → c ≡ c' → d ≡ d' → dated g l c d ≡ dated g' l' c' d'
-alike g g' l l' c c' d d' p q r s = cc
+abbrev pub no_date : ℕ → Result Dates BadLine
+no_date line = Err (record { line = line })
 
 module _
     (ns left : List (Option ℕ)) (dates : List ℕ) (count : ℕ) (h : count ≤ 201) (s : Sofar ns left dates count) (none : leading left ≡ []) where
@@ -70,54 +56,71 @@ module _
   so_many : length (leading ns) ≡ count
   so_many = ap length all_kept ∙ length-take-le count dates (omega (arith, s.long))
 
-  in_places_lem : leading ns ++ replicate (201 - length (leading ns)) 0 ≡ dates
-  in_places_lem =
-      ap₂ (λ (d : List ℕ) (k : ℕ). d ++ replicate (201 - k) 0) all_kept so_many
-      ∙ ap (λ (d : List ℕ). take count dates ++ d) (sym s.zeros)
-      ∙ take-append-drop count dates
-
-all_good : (ns : List (Option ℕ)) (dates : List ℕ) (count : ℕ) → count ≤ 201 → Sofar ns [] dates count → dated true count count dates ≡ told ns
+all_good : (ns : List (Option ℕ)) (dates : List ℕ) (count : ℕ) → count ≤ 201 → Sofar ns [] dates count → dated count dates ≡ told ns
 unfolding leading told
 all_good ns dates count h s =
     let m : length (leading ns) ≡ count = so_many ns [] dates count h s refl in
     let n : length ns ≡ count = omega (arith, s.lines) in
-    let g : eqb (length (leading ns)) (length ns) ≡ true = eq-eqb _ _ (m ∙ sym n) in
-    sym (alike _ _ _ _ _ _ _ _ g (picks _ _ _ g ∙ n) m (in_places_lem ns [] dates count h s refl))
+    let d : leading ns ++ replicate (201 - length ns) 0 ≡ dates =
+    ap₂ (λ (d : List ℕ) (k : ℕ). d ++ replicate (201 - k) 0) (all_kept ns [] dates count h s refl) n
+    ∙ ap (λ (d : List ℕ). take count dates ++ d) (sym s.zeros)
+    ∙ take-append-drop count dates in
+    sym (picks _ _ _ (eq-eqb _ _ (m ∙ sym n)) ∙ ap₂ dated n d)
 
 pub one_bad : (ns left : List (Option ℕ)) (dates : List ℕ) (count : ℕ) → count ≤ 201 → Sofar ns (None ∷ left) dates count
-    → dated false (count + 1) count dates ≡ told ns
+    → no_date (count + 1) ≡ told ns
 unfolding leading told
 one_bad ns left dates count h s =
     let m : length (leading ns) ≡ count = so_many ns (None ∷ left) dates count h s refl in
     let n : length ns ≡ count + (1 + length left) = omega (arith, s.lines) in
     let g : eqb (length (leading ns)) (length ns) ≡ false = ne_eqb _ _ (λ (e : length (leading ns) ≡ length ns). omega arith) in
-    sym (alike _ _ _ _ _ _ _ _ g (skips _ _ _ g ∙ ap (λ (k : ℕ). k + 1) m) m (in_places_lem ns (None ∷ left) dates count h s refl))
+    sym (skips _ _ _ g ∙ ap (λ (k : ℕ). no_date (k + 1)) m)
 
--- ---- the lines from a place on
+-- ---- the lines that are left
 
-next_line : (s : List ℕ) (at r count : ℕ) → at < length s → count < 201 → r ≡ at + length (up_to 0x0A (drop at s))
-    → rest s at count ≡ date_of (take (r - at) (drop at s)) ∷ rest s (r + 1) (count + 1)
-next_line s at r count h k e =
+abbrev pub Behind : List ℕ → Option (Bor (List ℕ)) → Type 0
+Behind l more = MatchOption more (up_to 0x0A l ≡ l) (λ r. l ≡ up_to 0x0A l ++ (0x0A ∷ r.now))
+
+abbrev pub behind : Option (Bor (List ℕ)) → List ℕ
+behind None = []
+behind (Some r) = r.now
+
+next_line : (l : List ℕ) (more : Option (Bor (List ℕ))) (count : ℕ) → 0 < length l → count < 201 → Behind l more
+    → rest l count ≡ date_of (up_to 0x0A l) ∷ rest (behind more) (count + 1)
+unfolding ended_by
+next_line l more count h k e =
     let z : 201 - count ≡ suc (201 - (count + 1)) = omega arith in
-    ap₂ (λ (n : ℕ) (ps : List (List ℕ)). map date_of (take n ps)) z (ended_from 0x0A s at r h e)
-
-no_line : (s : List ℕ) (at count : ℕ) → length s ≤ at → rest s at count ≡ []
-no_line s at count h =
-    ap (λ (ps : List (List ℕ)). map date_of (take (201 - count) ps)) (ended_none 0x0A s at h)
-    ∙ ap (map date_of) (take-nil (201 - count))
+    ap₂ (λ (n : ℕ) (ps : List (List ℕ)). map date_of (take n ps)) z (go more e)
+  where
+    go : (x : Option (Bor (List ℕ))) → Behind l x → ended_by 0x0A l ≡ up_to 0x0A l ∷ ended_by 0x0A (behind x)
+    go None f = ended_last 0x0A l h f
+    go (Some r) f = ended_more 0x0A l r.now f
 
 -- the line there says x
-pub looked : (ns : List (Option ℕ)) (dates s : List ℕ) (at r count : ℕ) (x : Option ℕ)
-    → at < length s → count < 201 → r ≡ at + length (up_to 0x0A (drop at s)) → x ≡ date_of (take (r - at) (drop at s))
-    → Sofar ns (rest s at count) dates count → Sofar ns (x ∷ rest s (r + 1) (count + 1)) dates count
-looked ns dates s at r count x h k e f y =
+pub looked : (ns : List (Option ℕ)) (dates l p : List ℕ) (more : Option (Bor (List ℕ))) (count : ℕ) (x : Option ℕ)
+    → 0 < length l → count < 201 → Behind l more → p ≡ up_to 0x0A l → x ≡ date_of p
+    → Sofar ns (rest l count) dates count → Sofar ns (x ∷ rest (behind more) (count + 1)) dates count
+looked ns dates l p more count x h k e q f y =
     subst (λ (left : List (Option ℕ)). Sofar ns left dates count)
-    (next_line s at r count h k e ∙ ap (λ (n : Option ℕ). n ∷ rest s (r + 1) (count + 1)) (sym f)) y
+    (next_line l more count h k e ∙ ap (λ (n : Option ℕ). n ∷ rest (behind more) (count + 1)) (ap date_of (sym q) ∙ sym f)) y
 
 -- nothing is left to look at: the file ends, or all places are taken
-pub ends : (ns : List (Option ℕ)) (dates s : List ℕ) (at count : ℕ) → (length s ≤ at) ⊎ (count ≡ 201) → count ≤ 201
-    → Sofar ns (rest s at count) dates count → dated true count count dates ≡ told ns
-ends ns dates s at count (inl h) k y =
-    all_good ns dates count k (subst (λ (left : List (Option ℕ)). Sofar ns left dates count) (no_line s at count h) y)
-ends ns dates s at count (inr e) k y =
-    all_good ns dates count k (subst (λ (left : List (Option ℕ)). Sofar ns left dates count) (ap (rest s at) e) y)
+pub ends : (ns : List (Option ℕ)) (dates l : List ℕ) (count : ℕ) → length l ≡ 0 → count ≤ 201
+    → Sofar ns (rest l count) dates count → dated count dates ≡ told ns
+unfolding ended_by
+ends ns dates [] count h k y =
+    all_good ns dates count k (subst (λ (left : List (Option ℕ)). Sofar ns left dates count) (ap (map date_of) (take-nil (201 - count))) y)
+ends ns dates (x ∷ l) count h k y = absurd (omega arith)
+
+pub is_full : (ns : List (Option ℕ)) (dates l : List ℕ) (count : ℕ) → count ≤ 201 → 201 ≤ count → Sofar ns (rest l count) dates count
+    → dated 201 dates ≡ told ns
+is_full ns dates l count h k y =
+    let e : 201 ≡ count = omega arith in
+    let z : 201 - count ≡ 0 = omega arith in
+    let o : rest l count ≡ [] = ap (λ (n : ℕ). map date_of (take n (ended_by 0x0A l))) z in
+    ap (λ (n : ℕ). dated n dates) e ∙ all_good ns dates count h (subst (λ (left : List (Option ℕ)). Sofar ns left dates count) o y)
+
+-- what is left behind a line
+pub left_is : (more : Option (Bor (List ℕ))) (d r : Bor (List ℕ)) → r ≡ unwrap_or more d → d.now ≡ [] → behind more ≡ r.now
+left_is None d r e z = sym (ap (λ (x : Bor (List ℕ)). x.now) e ∙ z)
+left_is (Some x) d r e z = sym (ap (λ (x : Bor (List ℕ)). x.now) e)

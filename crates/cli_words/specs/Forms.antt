@@ -1,12 +1,13 @@
 -- The forms of the program's words: design section 7. A word of another form is bad, and says no value.
 -- Assumes nothing.
-use Rattle.std.specs.Prelude.{ℕ, suc, ◌+◌, ◌-◌, ◌^◌, List, [], ◌∷◌, ◌++◌, map, eqb, ltb, length, take, get_or, replicate, None, Option, Some}
+use Rattle.std.specs.Prelude.{ℕ, Bool, true, false, suc, ◌+◌, ◌-◌, ◌^◌, List, [], ◌∷◌, ◌++◌, map, eqb, ltb, length, take, get_or, replicate, None, Option, Some, Result, Ok, Err}
 use Rattle.std.specs.Int.Bits.{bit_or}
 use Rattle.ground.specs.Choice.{both, pick, between}
 use Rattle.ground.specs.Lists.{all, same}
 use Rattle.text.specs.Characters.{digit, hex_digit, padded}
 use Rattle.text.specs.Numbers.{decimal, hex}
 use Rattle.text.specs.Letters.{letters}
+use Rattle.cli_words.specs.declared.BadLine.{BadLine}
 use Rattle.cli_words.specs.declared.Dates.{Dates}
 use Rattle.cli_words.specs.Parts.{ended_by, split_at}
 
@@ -30,9 +31,9 @@ read_of s = in_range 1 65536 (number_of 1 5 s)
 unfoldable pub block_of : ℕ → List ℕ → Option ℕ
 block_of width s = pick (both (eqb (length s) width) (all hex_digit s)) (Some (hex (take 16 s))) None
 
--- yes is 1, no is 0
-unfoldable pub choice_of : List ℕ → Option ℕ
-choice_of s = pick (same s (letters "yes")) (Some 1) (pick (same s (letters "no")) (Some 0) None)
+-- yes or no
+unfoldable pub choice_of : List ℕ → Option Bool
+choice_of s = pick (same s (letters "yes")) (Some true) (pick (same s (letters "no")) (Some false) None)
 
 -- an identity in 17 characters, then its qualifier in 8
 unfoldable pub who_of : List ℕ → List ℕ → List ℕ
@@ -46,23 +47,25 @@ type_texts =
     letters "1" ∷ letters "2" ∷ letters "3" ∷ letters "4" ∷ letters "5" ∷ letters "6" ∷ letters "7" ∷ letters "8" ∷
     letters "9" ∷ letters "10" ∷ letters "11" ∷ letters "12" ∷ letters "13" ∷ letters "14" ∷ letters "15" ∷ letters "16" ∷ []
 
--- the place of a text among others, from 0; their number where it is none of them
-unfoldable pub place_in : List (List ℕ) → List ℕ → ℕ
-place_in [] p = 0
-place_in (t ∷ ts) p = pick (same p t) 0 (suc (place_in ts p))
+-- one place more
+unfoldable pub further : Option ℕ → Option ℕ
+further None = None
+further (Some n) = Some (suc n)
 
--- the bit of a type: type k is bit k - 1, and 16 stands for a text that is no type
-abbrev pub bit_of : List ℕ → ℕ
+-- the place of a text among others, from 0, if it is one of them
+unfoldable pub place_in : List (List ℕ) → List ℕ → Option ℕ
+place_in [] p = None
+place_in (t ∷ ts) p = pick (same p t) (Some 0) (further (place_in ts p))
+
+-- the bit of a type: type k is bit k - 1
+unfoldable pub bit_of : List ℕ → Option ℕ
 bit_of p = place_in type_texts p
 
--- a set with bits more
-unfoldable pub with_bits : ℕ → List ℕ → ℕ
-with_bits set [] = set
-with_bits set (k ∷ ks) = with_bits (bit_or set (2 ^ k)) ks
-
--- the same where each is the bit of a type
-unfoldable pub with_types : ℕ → List ℕ → Option ℕ
-with_types set ks = pick (all (λ (k : ℕ). ltb k 16) ks) (Some (with_bits set ks)) None
+-- a set with bits more, where each of them is the bit of a type
+unfoldable pub with_types : ℕ → List (Option ℕ) → Option ℕ
+with_types set [] = Some set
+with_types set (None ∷ ks) = None
+with_types set (Some k ∷ ks) = with_types (bit_or set (2 ^ k)) ks
 
 -- types between commas, as `1,3,16`; `-` is none
 unfoldable pub types_of : List ℕ → Option ℕ
@@ -84,16 +87,13 @@ leading [] = []
 leading (None ∷ ns) = []
 leading (Some n ∷ ns) = n ∷ leading ns
 
--- what the lines that are looked at say: their dates up to the first line that is none, which is then the last one looked at
-unfoldable pub told : List (Option ℕ) → Dates
+-- what the lines that are looked at say: their dates, with zeros in the places past them, or the number of the first that is none
+unfoldable pub told : List (Option ℕ) → Result Dates BadLine
 told ns =
-    record {
-      good = eqb (length (leading ns)) (length ns);
-      line = pick (eqb (length (leading ns)) (length ns)) (length ns) (length (leading ns) + 1);
-      count = length (leading ns);
-      dates = leading ns ++ replicate (201 - length (leading ns)) 0;
-    }
+    pick (eqb (length (leading ns)) (length ns))
+    (Ok (record { count = length ns; dates = leading ns ++ replicate (201 - length ns) 0 }))
+    (Err (record { line = length (leading ns) + 1 }))
 
 -- a date a line, which LF ends; 201 lines are looked at
-unfoldable pub holidays_of : List ℕ → Dates
+unfoldable pub holidays_of : List ℕ → Result Dates BadLine
 holidays_of s = told (map date_of (take 201 (ended_by 0x0A s)))

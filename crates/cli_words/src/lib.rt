@@ -2,82 +2,69 @@
 
 #![tactic(auto)]
 
-ghost use Rattle.std.specs.Prelude.{◌≡◌, [], ◌∷◌, map, ◌+◌, leb, length, drop};
+ghost use Rattle.std.specs.List.{position};
+ghost use Rattle.std.specs.Prelude.{◌==◌, ◌<◌, IfSome, ◌≡◌, [], ◌∷◌, map, ◌+◌, leb, ◌++◌, length, drop, MatchOption};
 ghost use Rattle.text.specs.Characters.{padded};
 ghost use Rattle.cli_words.specs.Parts.{up_to, split_at};
 ghost use Rattle.cli_words.specs.Forms.{number_of, read_of, block_of, choice_of, who_of};
 ghost use Rattle.cli_words.specs.Forms.{bit_of, with_types, types_of, without_cr, date_of, holidays_of};
 
-// What a file of holidays says: whether each line is six digits, the number of the last line looked at, and the dates; the 201st is one too
-// many for any table, so no more are kept.
-#[derive(Drop)]
+// The dates of a file of holidays; the 201st is one too many for any table, so no more are kept.
+#[derive(Clone, Copy, Debug, PartialEq, Eq)]
 pub struct Dates {
-    pub good: bool,
-    pub line: u32,
     pub count: usize,
     pub dates: [u32; 201],
+}
+
+// The number of a line of it that isn't six digits.
+#[derive(Clone, Copy, Debug, PartialEq, Eq)]
+pub struct BadLine {
+    pub line: u32,
 }
 
 // A word of `low` to `high` digits.
 pub fn digits(s: &[u8], low: usize, high: usize) -> Option<u32>
     ensures { result ≡ number_of low high s.now }
 {
-    if s.len() < low {
-        return None;
+    if (low..=high).contains(&s.len()) && text::all_digits(s) {
+        u32::try_from(text::number(s)).ok()
+    } else {
+        None
     }
-    if high < s.len() {
-        return None;
-    }
-    if !text::all_digits(s) {
-        return None;
-    }
-    let n = text::number(s);
-    if 4294967296 <= n {
-        return None;
-    }
-    Some(n as u32)
 }
 
 // Bytes a read.
 pub fn read_size(s: &[u8]) -> Option<u32>
     ensures { result ≡ read_of s.now }
 {
-    let Some(n) = digits(s, 1, 5) else {
-        return None;
-    };
-    if n < 1 {
-        return None;
+    match digits(s, 1, 5) {
+        Some(n @ 1..=65536) => Some(n),
+        _ => None,
     }
-    if 65536 < n {
-        return None;
-    }
-    Some(n)
 }
 
 // A word of that many hex digits.
 pub fn hex_digits(s: &[u8], width: usize) -> Option<u64>
     ensures { result ≡ block_of width s.now }
 {
-    if s.len() != width {
-        return None;
+    if s.len() == width && text::all_hex_digits(s) {
+        Some(text::hex_number(s))
+    } else {
+        None
     }
-    if !text::all_hex_digits(s) {
-        return None;
-    }
-    Some(text::hex_number(s))
 }
 
 // `yes` or `no`.
-pub fn choice(s: &[u8]) -> Option<u32>
+pub fn choice(s: &[u8]) -> Option<bool>
     ensures { result ≡ choice_of s.now }
 {
     if text::same_bytes(s, b"yes") {
-        return Some(1);
+        Some(true)
+    } else if text::same_bytes(s, b"no") {
+        Some(false)
+    } else {
+        None
     }
-    if text::same_bytes(s, b"no") {
-        return Some(0);
-    }
-    None
 }
 
 // Whether a name fits its field.
@@ -108,62 +95,65 @@ pub fn software(s: &[u8]) -> [u8; 16]
 
 // ---- parts
 
+// Where the first byte `by` stands.
+fn place_of(s: &[u8], by: u8) -> Option<usize>
+    ensures { result ≡ position (λ b. b == by) s.now }
+{
+    s.iter().position(|&b| b == by)
+}
+
+// The part up to the first byte `by`, and what follows that byte, if there is one.
+pub fn first_part(s: &[u8], by: u8) -> (&[u8], Option<&[u8]>)
+    ensures part { result.0.now ≡ up_to by s.now }
+    ensures rest { MatchOption result.1 (up_to by s.now ≡ s.now) (λ r. s.now ≡ up_to by s.now ++ (by ∷ r.now)) }
+{
+    match place_of(s, by) {
+        Some(end) => (&s[..end], Some(&s[end + 1..])),
+        None => (s, None),
+    }
+}
+
 // Where the part that starts at `from` ends: at the next byte `by`, or at the end.
 pub fn part_end(s: &[u8], from: usize, by: u8) -> usize
     ensures { result ≡ from + length (up_to by (drop from s.now)) }
 {
-    let mut i = from;
-    while i < s.len() {
-        if s[i] == by {
-            return i;
-        }
-        i += 1;
-    }
-    i
+    let (part, _) = first_part(&s[from.min(s.len())..], by);
+    from + part.len()
 }
 
 // ---- types
 
 // The bit of a type of one digit.
-fn one_digit(c: u8) -> u32
-    ensures { result ≡ bit_of (c ∷ []) }
+fn one_digit(c: u8) -> Option<u32>
+    ensures bit { result ≡ bit_of (c ∷ []) }
+    ensures small { IfSome result (λ k. k < 16) }
 {
-    if c < b'1' {
-        return 16;
+    match c {
+        b'1'..=b'9' => Some(u32::from(c - b'1')),
+        _ => None,
     }
-    if b'9' < c {
-        return 16;
-    }
-    (c - b'1') as u32
 }
 
 // The bit of a type of two digits, the first of which is 1.
-fn two_digits(c: u8) -> u32
-    ensures { result ≡ bit_of (0x31 ∷ c ∷ []) }
+fn two_digits(c: u8) -> Option<u32>
+    ensures bit { result ≡ bit_of (0x31 ∷ c ∷ []) }
+    ensures small { IfSome result (λ k. k < 16) }
 {
-    if c < b'0' {
-        return 16;
+    match c {
+        b'0'..=b'6' => Some(u32::from(c - b'0') + 9),
+        _ => None,
     }
-    if b'6' < c {
-        return 16;
-    }
-    (c - b'0') as u32 + 9
 }
 
-// The bit of a type, or 16 for any other text.
-fn type_bit(p: &[u8]) -> u32
-    ensures { result ≡ bit_of p.now }
+fn type_bit(p: &[u8]) -> Option<u32>
+    ensures bit { result ≡ bit_of p.now }
+    ensures small { IfSome result (λ k. k < 16) }
 {
-    if p.len() == 1 {
-        return one_digit(p[0]);
+    match p {
+        [c] => one_digit(*c),
+        [b'1', c] => two_digits(*c),
+        _ => None,
     }
-    if p.len() != 2 {
-        return 16;
-    }
-    if p[0] != b'1' {
-        return 16;
-    }
-    two_digits(p[1])
 }
 
 // Listed as `1,3,16`, or `-` for none.
@@ -179,16 +169,12 @@ pub fn types(s: &[u8]) -> Option<u32>
 fn listed(s: &[u8]) -> Option<u32>
     ensures { result ≡ with_types 0 (map bit_of (split_at 0x2C s.now)) }
 {
-    let mut set: u32 = 0;
-    let mut at = 0;
-    while at <= s.len() {
-        let end = part_end(s, at, b',');
-        let k = type_bit(&s[at..end]);
-        if 15 < k {
-            return None;
-        }
-        set = set | (1 << k);
-        at = end + 1;
+    let mut set = 0;
+    let mut left = Some(s);
+    while let Some(rest) = left {
+        let (part, more) = first_part(rest, b',');
+        set |= 1u32 << type_bit(part)?;
+        left = more;
     }
     Some(set)
 }
@@ -199,14 +185,10 @@ fn listed(s: &[u8]) -> Option<u32>
 pub fn without_cr(line: &[u8]) -> &[u8]
     ensures { result.now ≡ without_cr line.now }
 {
-    if line.len() == 0 {
-        return line;
+    match line {
+        [front @ .., b'\r'] => front,
+        _ => line,
     }
-    let last = line.len() - 1;
-    if line[last] != b'\r' {
-        return line;
-    }
-    &line[..last]
 }
 
 fn date_in(line: &[u8]) -> Option<u32>
@@ -215,35 +197,24 @@ fn date_in(line: &[u8]) -> Option<u32>
     digits(without_cr(line), 6, 6)
 }
 
-// A file of holidays: a date a line, which LF or CR LF ends.
-pub fn holidays(s: &[u8]) -> Dates
+// A file of holidays: a date a line, which LF or CR LF ends; at most 201 lines of it.
+pub fn holidays(s: &[u8]) -> Result<Dates, BadLine>
     ensures { result ≡ holidays_of s.now }
 {
     let mut dates = [0u32; 201];
-    let mut count = 0;
-    let mut at = 0;
-    while at < s.len() {
-        if count == 201 {
-            break;
+    let mut left = s;
+    for count in 0..201usize {
+        if left.is_empty() {
+            return Ok(Dates { count, dates });
         }
-        let end = part_end(s, at, b'\n');
-        let date = date_in(&s[at..end]);
-        let Some(n) = date else {
-            return Dates {
-                good: false,
-                line: (count + 1) as u32,
-                count,
-                dates,
-            };
+        let (line, more) = first_part(left, b'\n');
+        let Some(date) = date_in(line) else {
+            return Err(BadLine {
+                line: count as u32 + 1,
+            });
         };
-        dates[count] = n;
-        count += 1;
-        at = end + 1;
+        dates[count] = date;
+        left = more.unwrap_or(b"");
     }
-    Dates {
-        good: true,
-        line: count as u32,
-        count,
-        dates,
-    }
+    Ok(Dates { count: 201, dates })
 }

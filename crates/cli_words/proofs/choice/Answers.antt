@@ -1,5 +1,5 @@
 -- The word is compared with each of the two in turn.
-use mathlib.Core.Path.{sym, ◌∙◌}
+use Rattle.std.proofs.Common.{sym, ◌∙◌}
 use Rattle.ground.proofs.Choices.{picks, skips}
 use Rattle.text.specs.Letters.{letters}
 use Rattle.cli_words.specs.Forms.{choice_of}
@@ -13,10 +13,10 @@ pub returns-then-same_bytes-2 : goal.returns-then-same_bytes-2
 unfolding choice_of letters
 returns-then-same_bytes-2 c =
     sym (skips _ _ _ (sym c.same_bytes.ensures ∙ c.if-same_bytes.false)
-    ∙ picks _ _ _ (sym c.same_bytes-2.ensures ∙ c.if-same_bytes-2.true))
+    ∙ picks _ _ _ (sym c.same_bytes-else-same_bytes.ensures ∙ c.if-same_bytes-2.true))
 
-pub returns : goal.returns
+pub returns-else-same_bytes-2 : goal.returns-else-same_bytes-2
 unfolding choice_of letters
-returns c =
+returns-else-same_bytes-2 c =
     sym (skips _ _ _ (sym c.same_bytes.ensures ∙ c.if-same_bytes.false)
-    ∙ skips _ _ _ (sym c.same_bytes-2.ensures ∙ c.if-same_bytes-2.false))
+    ∙ skips _ _ _ (sym c.same_bytes-else-same_bytes.ensures ∙ c.if-same_bytes-2.false))

@@ -1,45 +1,34 @@
--- The set so far and the types from here on give the whole.
-use mathlib.Core.Path.{refl, sym, ◌∙◌}
-use Prim.Native.Nat.{◌-◌}
-use native.Mathlib.Omega.{arith}
-use Rattle.cli_words.specs.Parts.{split_at}
-use Rattle.cli_words.proofs.Cuts.{end_in}
-use Rattle.cli_words.proofs.Bits.{takes_type, stops_at, ends_at}
+-- The set so far and the types that are left give the whole.
+use Rattle.std.proofs.Common.{refl, sym, ap, ◌∙◌, arith}
+use Rattle.cli_words.specs.Forms.{with_types}
+use Rattle.cli_words.proofs.Bits.{bits_left, to_go, takes_type, stops, shorter}
 use Rattle.cli_words.proofs.listed.Goals as goal
 
-pub loop-at-init : goal.loop-at-init
-loop-at-init c = (omega arith, refl)
+pub loop-left-init : goal.loop-left-init
+unfolding bits_left
+loop-left-init c = refl
 
-pub slice_bounds-type_bit-end : goal.slice_bounds-type_bit-end
-slice_bounds-type_bit-end c =
-    let s = c.args.s.now in
-    omega (arith, end_in 0x2C s c.loop-at.at c.part_end-end.result c.part_end-end.ensures c.loop-at-test.true)
+pub returns-in_err-set : goal.returns-in_err-set
+unfolding bits_left
+returns-in_err-set c =
+    c.from_residual.ensures
+    ∙ stops _ _ _ c.loop-left.set c.first_part.ensures.rest c.first_part.ensures.part (sym c.in_err-set.was ∙ c.type_bit.ensures.bit)
+    ∙ sym (ap (λ x. with_types c.loop-left.set (bits_left x)) c.in-Some.is)
+    ∙ c.loop-left.invariant
 
-pub returns-then-k-gt15 : goal.returns-then-k-gt15
-unfolding split_at
-returns-then-k-gt15 c =
-    let b = c.type_bit-k in
-    sym (stops_at _ c.loop-at.at c.part_end-end.result b.result c.loop-at.set c.loop-at-test.true
-    c.part_end-end.ensures b.ensures c.if-k-gt15.true)
-    ∙ c.loop-at.invariant.1
+pub loop-left-smaller : goal.loop-left-smaller
+unfolding to_go
+loop-left-smaller c = omega (arith, ap to_go c.in-Some.is, shorter _ _ c.first_part.ensures.rest)
 
-pub overflow_add-at : goal.overflow_add-at
-overflow_add-at c =
-    let s = c.args.s.now in
-    omega (arith, end_in 0x2C s c.loop-at.at c.part_end-end.result c.part_end-end.ensures c.loop-at-test.true)
-
-pub loop-at-preserved : goal.loop-at-preserved
-loop-at-preserved c =
-    let s = c.args.s.now in
-    let h = end_in 0x2C s c.loop-at.at c.part_end-end.result c.part_end-end.ensures c.loop-at-test.true in
-    let b = c.type_bit-k in (
-      omega arith,
-      takes_type s c.loop-at.at c.part_end-end.result b.result c.loop-at.set c.loop-at-test.true
-          c.part_end-end.ensures b.ensures (omega arith)
-          ∙ c.loop-at.invariant.1,
-    )
+pub loop-left-preserved : goal.loop-left-preserved
+unfolding bits_left
+loop-left-preserved c =
+    takes_type _ _ _ _ c.loop-left.set c.first_part.ensures.rest c.first_part.ensures.part
+    (sym c.in_ok-set.was ∙ c.type_bit.ensures.bit) c.in_ok-set.ensures.small
+    ∙ sym (ap (λ x. with_types c.loop-left.set (bits_left x)) c.in-Some.is)
+    ∙ c.loop-left.invariant
 
 pub returns : goal.returns
-unfolding split_at
+unfolding bits_left with_types
 returns c =
-    sym (ends_at c.args.s.now c.loop-at.at c.loop-at.set c.loop-at-test.false) ∙ c.loop-at.invariant.1
+    sym (ap (λ x. with_types c.loop-left.set (bits_left x)) c.in_default.is) ∙ c.loop-left.invariant

@@ -1,18 +1,21 @@
 -- The number is tested against both ends of its range.
-use mathlib.Core.Path.{sym, ◌∙◌}
-use Rattle.cli_words.proofs.Ranges.{no_number, too_low, too_high, within}
+use Rattle.std.proofs.Common.{sym, ◌∙◌, arith}
+use Rattle.cli_words.proofs.Numbers.{no_number, too_low, too_high, within}
 use Rattle.cli_words.proofs.read_size.Goals as goal
 
+pub returns-in-Some-1-to-65536 : goal.returns-in-Some-1-to-65536
+returns-in-Some-1-to-65536 c =
+    within _ _ (sym c.digits.ensures ∙ c.in-Some-1-to-65536.is) (omega arith) (omega arith)
+
 pub returns-in_default : goal.returns-in_default
-returns-in_default c = no_number _ (sym c.digits.ensures ∙ c.in_default.is)
+returns-in_default c =
+    let e = sym c.digits.ensures ∙ c.in_default.is in
+    grind (arith, too_low _ _ e, too_high _ _ e)
 
-pub returns-then-n-lt1 : goal.returns-then-n-lt1
-returns-then-n-lt1 c = too_low _ _ (sym c.digits.ensures ∙ c.in-Some.is) c.if-n-lt1.true
+pub returns-in_default-2 : goal.returns-in_default-2
+returns-in_default-2 c =
+    let e = sym c.digits.ensures ∙ c.in_default.is in
+    grind (arith, too_low _ _ e, too_high _ _ e)
 
-pub returns-then-n-gt65536 : goal.returns-then-n-gt65536
-returns-then-n-gt65536 c =
-    too_high _ _ (sym c.digits.ensures ∙ c.in-Some.is) c.if-n-gt65536.true
-
-pub returns : goal.returns
-returns c =
-    within _ _ (sym c.digits.ensures ∙ c.in-Some.is) c.if-n-lt1.false c.if-n-gt65536.false
+pub returns-in_default-3 : goal.returns-in_default-3
+returns-in_default-3 c = no_number _ (sym c.digits.ensures ∙ c.in_default.is)

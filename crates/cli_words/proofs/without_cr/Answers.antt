@@ -1,23 +1,17 @@
 -- The last byte is tested; an empty line has none.
-use mathlib.Core.Path.{sym}
-use native.Mathlib.Omega.{arith}
-use borrow.Author.Tests.{eq-eqb, ne_eqb}
-use lib.Seq.{length-take-le}
+use Rattle.std.proofs.Common.{sym, arith, eq-eqb, ne_eqb}
 use Rattle.ground.proofs.Choices.{picks, skips}
 use Rattle.cli_words.specs.Forms.{without_cr}
-use Rattle.cli_words.proofs.Days.{empty_line}
+use Rattle.cli_words.proofs.Lines.{empty_line}
 use Rattle.cli_words.proofs.without_cr.Goals as goal
 
-pub returns-then-line-eq0 : goal.returns-then-line-eq0
-returns-then-line-eq0 c = sym (empty_line _ c.if-line-eq0.true)
-
-pub returns-then-line-last-ne13 : goal.returns-then-line-last-ne13
+pub returns-in-13 : goal.returns-in-13
 unfolding without_cr
-returns-then-line-last-ne13 c = sym (skips _ _ _ (ne_eqb _ _ c.if-line-last-ne13.true))
+returns-in-13 c = sym (picks _ _ _ (eq-eqb _ _ (omega arith)))
 
-pub slice_bounds-result-end : goal.slice_bounds-result-end
-slice_bounds-result-end c = sym (length-take-le _ c.args.line.now (omega arith))
+pub returns-in_default : goal.returns-in_default
+returns-in_default c = sym (empty_line _ (omega arith))
 
-pub returns : goal.returns
+pub returns-in_default-2 : goal.returns-in_default-2
 unfolding without_cr
-returns c = sym (picks _ _ _ (eq-eqb _ _ c.if-line-last-ne13.false))
+returns-in_default-2 c = sym (skips _ _ _ (ne_eqb _ _ (λ e. omega arith)))
