@@ -131,11 +131,7 @@ fn set_up_with(t: &mut [u8], s: &Setting, dates: &[u32], n: usize) -> u32 {
 // ---- add
 
 // A changeover's length.
-fn length_of(
-    rt: &HostRuntime,
-    words: &Words,
-    i: usize,
-) -> Result<Option<calendar::CalendarDays>, Told> {
+fn length_of(rt: &HostRuntime, words: &Words, i: usize) -> Result<Option<calendar::CalendarDays>, Told> {
     if words.count() <= i {
         return Ok(None);
     }
