@@ -1,5 +1,5 @@
 -- The checks are made in their order.
-use Rattle.std.specs.Prelude.{Option}
+use Rattle.std.specs.Prelude.{Option, ℕ}
 use mathlib.Core.Path.{ap, ap₂, ◌∙◌}
 use Rattle.changeover.specs.Held.{held_key, good_for}
 use Rattle.checks.specs.Checks.{checksum_differs, esi_key_checks}

@@ -1,5 +1,5 @@
 -- The checks are made in their order.
-use Rattle.std.specs.Prelude.{Option}
+use Rattle.std.specs.Prelude.{Option, ℕ}
 use mathlib.Core.Path.{ap, ◌∙◌}
 use Rattle.ground.specs.Choice.{pick}
 use Rattle.message.specs.Layout.{field_text, offset_in, width_in}

@@ -1,5 +1,5 @@
 -- By the two cases of what is found.
-use Rattle.std.specs.Prelude.{Option}
+use Rattle.std.specs.Prelude.{Option, ℕ}
 use mathlib.Core.Path.{◌≡◌, ap, ◌∙◌}
 use mathlib.Core.Bool.{true, false}
 use Rattle.ground.specs.Choice.{fails}

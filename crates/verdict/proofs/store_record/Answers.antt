@@ -1,5 +1,5 @@
 -- A place has its record stored, and without one nothing is.
-use Rattle.std.specs.Prelude.{Option}
+use Rattle.std.specs.Prelude.{Option, ℕ}
 use mathlib.Core.Path.{sym, ap, ◌∙◌}
 use Rattle.verdict.specs.Outcomes.{stored_at}
 use Rattle.verdict.proofs.store_record.Goals as goal
