@@ -13,10 +13,8 @@ pub extern "C" fn lp_bench_rounds(key: u64, block: u64, count: u64) -> u64
 {
     let ks = des::schedule(key);
     let mut x = block;
-    let mut left = count;
-    while 0 < left {
+    for _ in 0..count {
         x = des::rounds(ks, x);
-        left -= 1;
     }
     x
 }
@@ -29,10 +27,8 @@ pub extern "C" fn lp_bench_lent(key: u64, block: u64, count: u64) -> u64
     let t = des::joined_table();
     let ks = des::schedule(key);
     let mut x = block;
-    let mut left = count;
-    while 0 < left {
+    for _ in 0..count {
         x = des::rounds_by(&t, ks, x);
-        left -= 1;
     }
     x
 }
@@ -43,11 +39,8 @@ pub extern "C" fn lp_bench_schedule(key: u64, count: u64) -> u64
     ensures { result ≡ scheduled key count }
 {
     let mut x = key;
-    let mut left = count;
-    while 0 < left {
-        let ks = des::schedule(x);
-        x = ks[15];
-        left -= 1;
+    for _ in 0..count {
+        x = des::schedule(x)[15];
     }
     x
 }

@@ -1,6 +1,6 @@
 // What stands in a file: the ESI, and each batch from its SUO to its VAR.
 use crate::{Order, stamps};
-use bureau_records::{Lines, Way};
+use bureau_records::{Bad, Fault, Lines, Way};
 use cli_files::Seen;
 use cli_terminal::options::Words;
 use cli_terminal::program::Program;
@@ -326,6 +326,13 @@ fn turn(
     } else {
         bureau_records::next(way, lines, &part[..n], &mut room)
     };
+    let next = match next {
+        Ok(next) => next,
+        Err(bad) => {
+            tell_fault(rt, path, bad);
+            return Err(Stopped::Told);
+        }
+    };
     let bytes = put_lines(rt, path, out, file, before, &next, &room)?;
     if n == 0 {
         with_characters(rt, path, &next)?;
@@ -337,7 +344,7 @@ fn turn(
     })
 }
 
-// What a part left in the room, or what is the matter with it.
+// What a part left in the room.
 fn put_lines(
     rt: &HostRuntime,
     path: &[u8],
@@ -347,12 +354,15 @@ fn put_lines(
     l: &Lines,
     room: &[u8],
 ) -> Result<u64, Stopped> {
-    if l.fault != 0 {
-        tell_fault(rt, path, l.line, l.fault);
-        return Err(Stopped::Told);
-    }
     let Some(filled) = room.get(..l.filled) else {
-        tell_fault(rt, path, l.line, bureau_records::NO_ROOM);
+        tell_fault(
+            rt,
+            path,
+            Bad {
+                line: l.line,
+                fault: Fault::NoRoom,
+            },
+        );
         return Err(Stopped::Told);
     };
     put(rt, out, file, before, filled)
@@ -372,19 +382,19 @@ fn with_characters(rt: &HostRuntime, path: &[u8], l: &Lines) -> Result<(), Told>
     Err(Told)
 }
 
-// The faults are those of `bureau_records`.
-fn tell_fault(rt: &HostRuntime, path: &[u8], line: u64, fault: u32) {
+fn tell_fault(rt: &HostRuntime, path: &[u8], bad: Bad) {
     cli_beside::tell(rt, Program::Bureau, path, b"line ");
+    let line = bad.line;
     let _ = eprint!(rt; "{line}");
-    match fault {
-        1 => say::err(
+    match bad.fault {
+        Fault::LikeMessage => say::err(
             rt,
             b" begins like a message: expected records that don't begin with >>ESI, >>SUO or >>VAR; nothing was changed\n",
         ),
-        2 => say::err(
+        Fault::EndsInCr => say::err(
             rt,
             b" ends in a CR of its own: expected records that LF or CR LF ends; nothing was changed\n",
         ),
-        _ => say::err(rt, b" has no room; nothing was changed\n"),
+        Fault::NoRoom => say::err(rt, b" has no room; nothing was changed\n"),
     }
 }

@@ -3,7 +3,7 @@
 
 #![tactic(auto)]
 
-ghost use Rattle.std.specs.Prelude.{◌≡◌, false, ◌==◌};
+ghost use Rattle.std.specs.Prelude.{◌≡◌, false, ◌==◌, IfOk};
 ghost use Rattle.ground.specs.Choice.{pick};
 ghost use Rattle.ground.specs.Lists.{member};
 ghost use Rattle.des.specs.Des.{cipher_by, schedule_of};
@@ -14,15 +14,23 @@ ghost use Rattle.digest.specs.declared.Method.{Method};
 ghost use Rattle.bureau_records.specs.Pieces.{freed, heard_byte, heard_bytes};
 ghost use Rattle.bureau_records.specs.Sofar.{heard_of};
 
-// Why a record can't be sent; 0 for no reason.
-pub const LIKE_MESSAGE: u32 = 1;
+// Why a record can't be sent.
+#[derive(Clone, Copy, Debug, PartialEq, Eq)]
+pub enum Fault {
+    LikeMessage,
+    EndsInCr,
+    NoRoom,
+}
 
-pub const ENDS_IN_CR: u32 = 2;
-
-pub const NO_ROOM: u32 = 3;
+// What is the matter with the record of that line.
+#[derive(Clone, Copy, Debug, PartialEq, Eq)]
+pub struct Bad {
+    pub line: u64,
+    pub fault: Fault,
+}
 
 // A record on its way: the digest; how many of its first five characters there are, and which; whether a CR was held back, since it may be
-// of a line end; whether the last character is a CR. Then the number of its line, the characters put into the room, and what is the matter.
+// of a line end; whether the last character is a CR. Then the number of its line, and the characters put into the room.
 #[derive(Clone, Copy)]
 pub struct Lines {
     pub running: digest::Running,
@@ -32,7 +40,6 @@ pub struct Lines {
     pub ends: bool,
     pub line: u64,
     pub filled: usize,
-    pub fault: u32,
 }
 
 // How the records are sent.
@@ -46,16 +53,14 @@ pub struct Way {
 pub fn begin() -> Lines
     ensures { heard_of result ≡ record { running = alike begun; waits = false } }
 {
-    let running = digest::at_record(digest::start());
     Lines {
-        running,
-        first: [0u8; 5],
+        running: digest::at_record(digest::start()),
+        first: [0; 5],
         known: 0,
         held: false,
         ends: false,
         line: 1,
         filled: 0,
-        fault: 0,
     }
 }
 
@@ -63,16 +68,11 @@ pub fn begin() -> Lines
 pub fn way_of(once: u64, method: digest::Method, crlf: bool) -> Way
     ensures { (result.method ≡ method) × (result.crlf ≡ crlf) × (result.keys ≡ schedule_of once) }
 {
-    let keys = des::schedule(once);
-    Way { method, crlf, keys }
-}
-
-fn faulty(l: Lines, fault: u32) -> Lines
-    ensures { result.fault ≡ fault }
-{
-    let mut x = l;
-    x.fault = fault;
-    x
+    Way {
+        method,
+        crlf,
+        keys: des::schedule(once),
+    }
 }
 
 // ---- the room for what goes into the file
@@ -84,7 +84,7 @@ fn put(room: &mut [u8], at: usize, s: &[u8]) -> usize {
         return at;
     }
     if n - at < s.len() {
-        return std::num::wrapping_add_usize(n, 1);
+        return n.wrapping_add(1);
     }
     text::copy(&mut room[at..], s);
     at + s.len()
@@ -92,69 +92,30 @@ fn put(room: &mut [u8], at: usize, s: &[u8]) -> usize {
 
 // ---- a piece of a record
 
-#[derive(Drop)]
-struct Head {
-    first: [u8; 5],
-    known: usize,
-}
-
-// The first five characters of a record, with those of a piece more.
-fn headed(h: Head, piece: &[u8]) -> Head {
-    let mut first = h.first;
-    let mut known = h.known;
-    let mut i = 0;
-    while i < piece.len() {
-        if 5 <= known {
-            return Head { first, known };
-        }
-        first[known] = piece[i];
-        known += 1;
-        i += 1;
-    }
-    Head { first, known }
-}
-
-fn ends_in_cr(piece: &[u8], before: bool) -> bool {
-    let n = piece.len();
-    if n == 0 {
-        return before;
-    }
-    piece[n - 1] == b'\r'
-}
-
 // Characters of a record more.
 fn took(table: &[u32; 512], keys: [u64; 16], l: Lines, room: &mut [u8], piece: &[u8]) -> Lines
     ensures { (result.running ≡ took_bytes (joined_by table.now keys) l.running piece.now) × (result.held ≡ l.held) }
 {
-    let before = l.running;
-    let five = l.first;
-    let h = headed(
-        Head {
-            first: five,
-            known: l.known,
-        },
-        piece,
-    );
-    let first = h.first;
-    let running = digest::run(table, keys, before, piece);
+    let mut first = l.first;
+    let known = l.known.min(5);
+    text::copy(&mut first[known..], piece);
     Lines {
-        running,
+        running: digest::run(table, keys, l.running, piece),
         first,
-        known: h.known,
-        held: l.held,
-        ends: ends_in_cr(piece, l.ends),
-        line: l.line,
+        known: known + piece.len().min(5 - known),
+        ends: match piece {
+            [.., last] => *last == b'\r',
+            [] => l.ends,
+        },
         filled: put(room, l.filled, piece),
-        fault: l.fault,
+        ..l
     }
 }
 
 fn holding(l: Lines, held: bool) -> Lines
     ensures { heard_of result ≡ record { running = l.running; waits = held } }
 {
-    let mut x = l;
-    x.held = held;
-    x
+    Lines { held, ..l }
 }
 
 // With a CR that was held back: it is a character of the record after all.
@@ -162,9 +123,10 @@ fn freed(table: &[u32; 512], keys: [u64; 16], l: Lines, room: &mut [u8]) -> Line
     ensures { result.running ≡ freed (joined_by table.now keys) (heard_of l) }
 {
     if l.held {
-        return took(table, keys, l, room, b"\r");
+        took(table, keys, l, room, b"\r")
+    } else {
+        l
     }
-    l
 }
 
 // A piece of a record, without LF; a CR at its end is held back.
@@ -172,137 +134,114 @@ fn pieced(table: &[u32; 512], keys: [u64; 16], l: Lines, room: &mut [u8], piece:
     requires { member 10 piece.now ≡ false }
     ensures { (m : Method) → heard_of result ≡ heard_bytes (joined_by table.now keys) m (heard_of l) piece.now }
 {
-    let n = piece.len();
-    if n == 0 {
+    if piece.is_empty() {
         return l;
     }
     let now = freed(table, keys, l, room);
     let solid = cli_words::without_cr(piece);
-    let held = solid.len() < n;
+    let held = solid.len() < piece.len();
     holding(took(table, keys, now, room, solid), held)
 }
 
 // ---- a record's end
 
-// Whether a record begins like a message.
-fn is_like_message(first: [u8; 5], known: usize) -> bool {
-    if known < 5 {
-        return false;
-    }
-    if text::same_bytes(&first, b">>ESI") {
-        return true;
-    }
-    if text::same_bytes(&first, b">>SUO") {
-        return true;
-    }
-    text::same_bytes(&first, b">>VAR")
+fn is_like_message(l: &Lines) -> bool {
+    5 <= l.known && matches!(&l.first, b">>ESI" | b">>SUO" | b">>VAR")
 }
 
-fn fault_of(l: Lines) -> u32 {
-    let first = l.first;
-    if is_like_message(first, l.known) {
-        return LIKE_MESSAGE;
+fn fault_of(l: &Lines) -> Option<Fault> {
+    if is_like_message(l) {
+        Some(Fault::LikeMessage)
+    } else if l.ends {
+        Some(Fault::EndsInCr)
+    } else {
+        None
     }
-    if l.ends {
-        return ENDS_IN_CR;
-    }
-    0
 }
 
 fn put_end(room: &mut [u8], at: usize, crlf: bool) -> usize {
     if crlf {
-        return put(room, at, b"\r\n");
+        put(room, at, b"\r\n")
+    } else {
+        put(room, at, b"\n")
     }
-    put(room, at, b"\n")
 }
 
 // A record's end: the CR that was held back is of the line end.
-fn ended(m: digest::Method, crlf: bool, l: Lines, room: &mut [u8]) -> Lines
-    ensures { result.fault ≡ 0 → heard_of result ≡ record { running = ended m l.running; waits = false } }
+fn ended(m: digest::Method, crlf: bool, l: Lines, room: &mut [u8]) -> Result<Lines, Bad>
+    ensures { IfOk result (λ x. heard_of x ≡ record { running = ended m l.running; waits = false }) }
 {
-    let fault = fault_of(l);
-    if fault != 0 {
-        return faulty(l, fault);
+    if let Some(fault) = fault_of(&l) {
+        return Err(Bad {
+            line: l.line,
+            fault,
+        });
     }
-    let before = l.running;
-    let running = digest::end_record(m, before);
-    Lines {
-        running,
-        first: [0u8; 5],
-        known: 0,
-        held: false,
-        ends: false,
-        line: std::num::wrapping_add_u64(l.line, 1),
+    Ok(Lines {
+        running: digest::end_record(m, l.running),
+        line: l.line.wrapping_add(1),
         filled: put_end(room, l.filled, crlf),
-        fault: 0,
-    }
+        ..begin()
+    })
 }
 
 // ---- a part of the file of records
 
 // The rest of a record, and its end.
-fn lined(table: &[u32; 512], w: Way, l: Lines, room: &mut [u8], piece: &[u8]) -> Lines
+fn lined(table: &[u32; 512], w: Way, l: Lines, room: &mut [u8], piece: &[u8]) -> Result<Lines, Bad>
     requires { member 10 piece.now ≡ false }
-    ensures { result.fault ≡ 0 → let e = joined_by table.now w.keys in
-        heard_of result ≡ heard_byte e w.method (heard_bytes e w.method (heard_of l) piece.now) 10 }
+    ensures { IfOk result (λ x. let e = joined_by table.now w.keys in
+        heard_of x ≡ heard_byte e w.method (heard_bytes e w.method (heard_of l) piece.now) 10) }
 {
-    let keys = w.keys;
-    let m = w.method;
-    let now = pieced(table, keys, l, room, piece);
-    ended(m, w.crlf, now, room)
+    let now = pieced(table, w.keys, l, room, piece);
+    ended(w.method, w.crlf, now, room)
 }
 
 // One part more: its characters into the digest, and into the room, which is empty before it.
-pub fn next(w: Way, l: Lines, part: &[u8], room: &mut [u8]) -> Lines
-    ensures { result.fault ≡ 0 → heard_of result ≡ heard_bytes (cipher_by boxes w.keys) w.method (heard_of l) part.now }
+pub fn next(w: Way, l: Lines, part: &[u8], room: &mut [u8]) -> Result<Lines, Bad>
+    ensures { IfOk result (λ x. heard_of x ≡ heard_bytes (cipher_by boxes w.keys) w.method (heard_of l) part.now) }
 {
     let table = des::joined_table();
-    let keys = w.keys;
-    let n = part.len();
     let mut now = emptied(l);
-    let mut at = 0;
-    while at < n {
-        let end = cli_words::part_end(part, at, b'\n');
-        if n <= end {
-            return pieced(&table, keys, now, room, &part[at..n]);
-        }
-        now = lined(&table, w, now, room, &part[at..end]);
-        if now.fault != 0 {
-            return now;
-        }
-        at = end + 1;
+    let mut left = part;
+    while !left.is_empty() {
+        let (piece, more) = cli_words::first_part(left, b'\n');
+        let Some(more) = more else {
+            return Ok(pieced(&table, w.keys, now, room, piece));
+        };
+        now = lined(&table, w, now, room, piece)?;
+        left = more;
     }
-    now
+    Ok(now)
 }
 
 fn emptied(l: Lines) -> Lines
     ensures { (heard_of result ≡ heard_of l) × (result.known ≡ l.known) }
 {
-    let mut x = l;
-    x.filled = 0;
-    x
+    Lines { filled: 0, ..l }
 }
 
 // The end of the file: a last record may have no line end, but then no CR either.
-pub fn finish(w: Way, l: Lines, room: &mut [u8]) -> Lines
-    ensures { result.fault ≡ 0 → heard_of result
-        ≡ record { running = pick (l.known == 0) l.running (ended w.method l.running); waits = false } }
+pub fn finish(w: Way, l: Lines, room: &mut [u8]) -> Result<Lines, Bad>
+    ensures { IfOk result (λ x. heard_of x
+        ≡ record { running = pick (l.known == 0) l.running (ended w.method l.running); waits = false }) }
 {
-    let m = w.method;
     let now = emptied(l);
     if now.held {
-        return faulty(now, ENDS_IN_CR);
+        return Err(Bad {
+            line: now.line,
+            fault: Fault::EndsInCr,
+        });
     }
     if now.known == 0 {
-        return now;
+        return Ok(now);
     }
-    ended(m, w.crlf, now, room)
+    ended(w.method, w.crlf, now, room)
 }
 
 // The digest of all the records.
 pub fn state_of(l: Lines) -> digest::State
     ensures { result ≡ l.running.last }
 {
-    let r = l.running;
-    r.last
+    l.running.last
 }

@@ -11,6 +11,7 @@ use cli_terminal::options::Words;
 use cli_terminal::program::Program::Lentilpot;
 use cli_terminal::say;
 use cli_terminal::status::{Status, Told};
+use refusals::Refusal;
 use table_calls::{Adding, Entering, Ordering, Setting};
 
 // Saves the table that a served call left, and answers.
@@ -33,7 +34,10 @@ fn load(
 
 // A call on that day on the table, which is taken for it and saved where it was served; `own` answers the refusals that are the command's
 // own.
-fn called<C: FnOnce(&mut [u8]) -> u32, O: FnOnce(&[u8], u32) -> Option<Result<Status, Told>>>(
+fn called<
+    C: FnOnce(&mut [u8]) -> Result<(), Refusal>,
+    O: FnOnce(&[u8], Refusal) -> Option<Result<Status, Told>>,
+>(
     rt: &HostRuntime,
     words: &Words,
     table: &[u8],
@@ -50,14 +54,16 @@ fn called<C: FnOnce(&mut [u8]) -> u32, O: FnOnce(&[u8], u32) -> Option<Result<St
         cli_held::release(rt, Lentilpot, table, &h);
         return Err(told);
     }
-    let refusal = call(&mut t);
-    if refusal == 0 {
+    let Err(refusal) = call(&mut t) else {
         return saved(rt, table, &t, &h);
-    }
+    };
     cli_held::release(rt, Lentilpot, table, &h);
     match own(&t, refusal) {
         Some(answered) => answered,
-        None => cli_days::answer(rt, table::day(&t), today, 0, refusal),
+        None => {
+            let number = refusals::code(Err(refusal));
+            cli_days::answer(rt, table::day(&t), today, 0, number)
+        }
     }
 }
 
@@ -139,7 +145,7 @@ fn set_up(
 // The first n dates are the holidays.
 fn set_up_with(t: &mut [u8], s: &Setting, dates: &[u32], n: usize) -> u32 {
     match dates.get(..n) {
-        Some(dates) => table_calls::set_up(t, *s, dates),
+        Some(dates) => refusals::code(table_calls::set_up(t, *s, dates)),
         None => 11,
     }
 }
@@ -166,7 +172,7 @@ pub fn add(rt: &HostRuntime, words: &Words) -> Result<Status, Told> {
         a.today,
         |t| table_calls::add(t, a),
         |_, refusal| match refusal {
-            11 => Some(limits::answer_add(rt, &a)),
+            Refusal::OutOfLimits => Some(limits::answer_add(rt, &a)),
             _ => None,
         },
     )
@@ -223,7 +229,7 @@ pub fn key(rt: &HostRuntime, words: &Words) -> Result<Status, Told> {
         e.today,
         |t| table_calls::enter(t, e),
         |t, refusal| match refusal {
-            12 => Some(limits::answer_transport(rt, t, e.who)),
+            Refusal::StillChanging => Some(limits::answer_transport(rt, t, e.who)),
             _ => None,
         },
     )
@@ -244,7 +250,7 @@ pub fn order(rt: &HostRuntime, words: &Words) -> Result<Status, Told> {
         today,
         |t| table_calls::order(t, o),
         |t, refusal| match refusal {
-            12 => Some(limits::answer_working(rt, t, who)),
+            Refusal::StillChanging => Some(limits::answer_working(rt, t, who)),
             _ => None,
         },
     )

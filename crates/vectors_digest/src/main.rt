@@ -5,119 +5,87 @@
 ghost use Rattle.std.specs.Prelude.{◌<◌};
 
 use digest::Method;
+use std::io;
 
-const STDOUT_FILENO: i32 = 1;
+const KEY: u64 = 0x0123456789ABCDEF;
 
-fn digit(x: u64) -> u8 {
-    let d = (x % 16) as u8;
-    if d < 10 { 48 + d } else { 55 + d }
-}
-
-fn put(label: &[u8], x: u64) {
-    let line = [
-        digit(x >> 60),
-        digit(x >> 56),
-        digit(x >> 52),
-        digit(x >> 48),
-        digit(x >> 44),
-        digit(x >> 40),
-        digit(x >> 36),
-        digit(x >> 32),
-        digit(x >> 28),
-        digit(x >> 24),
-        digit(x >> 20),
-        digit(x >> 16),
-        digit(x >> 12),
-        digit(x >> 8),
-        digit(x >> 4),
-        digit(x),
-        b'\n',
-    ];
-    io::write_all(STDOUT_FILENO, label);
-    io::write_all(STDOUT_FILENO, &line);
-}
-
-fn put_answer(label: &[u8], a: Option<u64>) {
+fn put_answer(rt: &HostRuntime, label: &str, a: Option<u64>) -> io::Result<()> {
     match a {
-        Some(x) => put(label, x),
-        None => {
-            io::write_all(STDOUT_FILENO, label);
-            io::write_all(STDOUT_FILENO, b"no characters\n");
-        }
+        Some(x) => println!(rt; "{label}: {x:016X}"),
+        None => println!(rt; "{label}: no characters"),
     }
 }
 
 // Bytes as they are, without the internal code.
-fn raw(label: &[u8], key: u64, bytes: &[u8]) {
+fn raw(rt: &HostRuntime, label: &str, bytes: &[u8]) -> io::Result<()> {
     let table = des::joined_table();
-    let keys = des::schedule(key);
+    let keys = des::schedule(KEY);
     let mut s = digest::start();
-    let mut i = 0;
-    while i < bytes.len() {
-        s = digest::feed(&table, keys, s, bytes[i]);
-        i += 1;
+    for &b in bytes {
+        s = digest::feed(&table, keys, s, b);
     }
-    put_answer(label, digest::finish(&table, keys, s));
+    put_answer(rt, label, digest::finish(&table, keys, s))
 }
 
 // A batch of two records.
-fn two(label: &[u8], key: u64, m: Method, first: &[u8], second: &[u8]) {
+fn two(rt: &HostRuntime, label: &str, m: Method, first: &[u8], second: &[u8]) -> io::Result<()> {
     let table = des::joined_table();
-    let keys = des::schedule(key);
+    let keys = des::schedule(KEY);
     let a = digest::run(&table, keys, digest::at_record(digest::start()), first);
     let b = digest::run(&table, keys, digest::end_record(m, a), second);
     let r = digest::end_record(m, b);
-    let s = r.start;
-    put_answer(label, digest::finish(&table, keys, s));
+    put_answer(rt, label, digest::finish(&table, keys, r.start))
 }
 
 // A batch of one record that comes in pieces.
-fn cut(label: &[u8], key: u64, m: Method, bytes: &[u8], size: usize)
+fn cut(rt: &HostRuntime, label: &str, m: Method, bytes: &[u8], size: usize) -> io::Result<()>
     requires { 0 < size }
 {
     let table = des::joined_table();
-    let keys = des::schedule(key);
+    let keys = des::schedule(KEY);
     let mut r = digest::at_record(digest::start());
-    let mut at = 0;
-    while size < bytes.len() - at {
-        let next = at + size;
-        r = digest::run(&table, keys, r, &bytes[at..next]);
-        at = next;
+    for piece in bytes.chunks(size) {
+        r = digest::run(&table, keys, r, piece);
     }
-    r = digest::end_record(m, digest::run(&table, keys, r, &bytes[at..]));
-    let s = r.start;
-    put_answer(label, digest::finish(&table, keys, s));
+    r = digest::end_record(m, r);
+    put_answer(rt, label, digest::finish(&table, keys, r.start))
 }
 
-fn pieces(key: u64, bytes: &[u8]) {
-    cut(b"SKH whole: ", key, Method::Skh, bytes, 64);
-    cut(b"SKH by 1: ", key, Method::Skh, bytes, 1);
-    cut(b"SKH by 2: ", key, Method::Skh, bytes, 2);
-    cut(b"SKH by 3: ", key, Method::Skh, bytes, 3);
-    cut(b"SKH by 7: ", key, Method::Skh, bytes, 7);
-    cut(b"SKH by 8: ", key, Method::Skh, bytes, 8);
-    cut(b"SKH by 9: ", key, Method::Skh, bytes, 9);
-    cut(b"SKE whole: ", key, Method::Ske, bytes, 64);
-    cut(b"SKE by 1: ", key, Method::Ske, bytes, 1);
-    cut(b"SKE by 2: ", key, Method::Ske, bytes, 2);
-    cut(b"SKE by 3: ", key, Method::Ske, bytes, 3);
-    cut(b"SKE by 7: ", key, Method::Ske, bytes, 7);
-    cut(b"SKE by 8: ", key, Method::Ske, bytes, 8);
-    cut(b"SKE by 9: ", key, Method::Ske, bytes, 9);
+fn pieces(rt: &HostRuntime, bytes: &[u8]) -> io::Result<()> {
+    cut(rt, "SKH whole", Method::Skh, bytes, 64)?;
+    cut(rt, "SKH by 1", Method::Skh, bytes, 1)?;
+    cut(rt, "SKH by 2", Method::Skh, bytes, 2)?;
+    cut(rt, "SKH by 3", Method::Skh, bytes, 3)?;
+    cut(rt, "SKH by 7", Method::Skh, bytes, 7)?;
+    cut(rt, "SKH by 8", Method::Skh, bytes, 8)?;
+    cut(rt, "SKH by 9", Method::Skh, bytes, 9)?;
+    cut(rt, "SKE whole", Method::Ske, bytes, 64)?;
+    cut(rt, "SKE by 1", Method::Ske, bytes, 1)?;
+    cut(rt, "SKE by 2", Method::Ske, bytes, 2)?;
+    cut(rt, "SKE by 3", Method::Ske, bytes, 3)?;
+    cut(rt, "SKE by 7", Method::Ske, bytes, 7)?;
+    cut(rt, "SKE by 8", Method::Ske, bytes, 8)?;
+    cut(rt, "SKE by 9", Method::Ske, bytes, 9)
 }
 
-fn main() {
-    let key = 0x0123456789ABCDEF;
-    raw(b"FIPS 113: ", key, b"7654321 Now is the time for ");
-    two(b"P2 SKH, AB__ and C: ", key, Method::Skh, b"AB  ", b"C");
-    raw(b"P2 ABC: ", key, b"ABC");
-    two(b"P2 SKE, AB__ and C: ", key, Method::Ske, b"AB  ", b"C");
-    raw(b"P2 AB__C: ", key, b"AB  C");
-    cut(b"P3 SKH, A#_: ", key, Method::Skh, b"A# ", 64);
-    raw(b"P3 A_: ", key, b"A ");
-    cut(b"P4 SKH, blanks: ", key, Method::Skh, b"      ", 64);
-    pieces(key, b"Rechnung 4711, Muster & Sohn (Basel) #.   ");
-    put(b"checksum, 150 of a: ", digest::checksum(key, &[0x61; 150]));
-    put(b"checksum, 144 of A: ", digest::checksum(key, &[0x41; 144]));
-    put(b"checksum, 143 of A: ", digest::checksum(key, &[0x41; 143]));
+fn checksums(rt: &HostRuntime) -> io::Result<()> {
+    let small = digest::checksum(KEY, &[0x61; 150]);
+    let large = digest::checksum(KEY, &[0x41; 144]);
+    let shorter = digest::checksum(KEY, &[0x41; 143]);
+    println!(rt; "checksum, 150 of a: {small:016X}")?;
+    println!(rt; "checksum, 144 of A: {large:016X}")?;
+    println!(rt; "checksum, 143 of A: {shorter:016X}")
+}
+
+fn main(rt: HostRuntime) -> io::Result<()> {
+    raw(&rt, "FIPS 113", b"7654321 Now is the time for ")?;
+    two(&rt, "P2 SKH, AB__ and C", Method::Skh, b"AB  ", b"C")?;
+    raw(&rt, "P2 ABC", b"ABC")?;
+    two(&rt, "P2 SKE, AB__ and C", Method::Ske, b"AB  ", b"C")?;
+    raw(&rt, "P2 AB__C", b"AB  C")?;
+    cut(&rt, "P3 SKH, A#_", Method::Skh, b"A# ", 64)?;
+    raw(&rt, "P3 A_", b"A ")?;
+    cut(&rt, "P4 SKH, blanks", Method::Skh, b"      ", 64)?;
+    pieces(&rt, b"Rechnung 4711, Muster & Sohn (Basel) #.   ")?;
+    checksums(&rt)
 }

@@ -65,10 +65,7 @@ fn offset_of(number: u32) -> usize {
 
 fn put(m: [u8; 161], number: u32, bytes: &[u8]) -> [u8; 161] {
     let mut out = m;
-    let at = offset_of(number);
-    if at <= 161 {
-        text::copy(&mut out[at..], bytes);
-    }
+    text::copy(&mut out[offset_of(number).min(161)..], bytes);
     out
 }
 
@@ -86,10 +83,7 @@ fn extent_of(n: u32) -> Extent {
 // A line: the kind, what is put into which fields, and the fault.
 fn tell(k: Kind, extent: u32, blank_over: bool, m: [u8; 161]) {
     match message::fault_of(k, About::Answered, extent_of(extent), blank_over, &m) {
-        Ok(()) => say(
-            b"-> sound
-",
-        ),
+        Ok(()) => say(b"-> sound\n"),
         Err(Fault { code, field, about }) => {
             let mut out = [0u8; 4];
             text::write_number(&mut out, code as u64);
@@ -97,10 +91,7 @@ fn tell(k: Kind, extent: u32, blank_over: bool, m: [u8; 161]) {
             say(&out);
             say(b" ");
             say_number(field);
-            say(
-                b"
-",
-            );
+            say(b"\n");
         }
     }
 }
@@ -130,7 +121,7 @@ fn one(k: Kind, blank_over: bool, number: u32, bytes: &[u8]) {
     tell(k, 0, blank_over, put(good(k), number, bytes));
 }
 
-// The same with a text that begins with the field's three digits.
+// The same with a text that begins with the field's three digits; an empty one says nothing.
 fn numbered(k: Kind, blank_over: bool, words: &[u8]) {
     if words.len() < 3 {
         return;
@@ -148,14 +139,8 @@ fn two(k: Kind, number: u32, bytes: &[u8], other: u32, others: &[u8]) {
 
 // Each of some texts that end in a bar.
 fn each(k: Kind, blank_over: bool, texts: &[u8]) {
-    let mut start = 0;
-    let mut i = 0;
-    while i < texts.len() {
-        if texts[i] == b'|' {
-            numbered(k, blank_over, &texts[start..i]);
-            start = i + 1;
-        }
-        i += 1;
+    for words in texts.split(|&b| b == b'|') {
+        numbered(k, blank_over, words);
     }
 }
 

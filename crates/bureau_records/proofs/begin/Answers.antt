@@ -7,4 +7,4 @@ use Rattle.bureau_records.proofs.begin.Goals as goal
 
 pub returns : goal.returns
 returns c =
-    ap {B = Heard} (λ (r : Running). record { running = r; waits = false }) (c.at_record-running.ensures ∙ ap alike c.start.ensures)
+    ap {B = Heard} (λ (r : Running). record { running = r; waits = false }) (c.at_record.ensures ∙ ap alike c.start.ensures)

@@ -7,5 +7,5 @@ pub returns-then-l : goal.returns-then-l
 returns-then-l c =
     c.took.ensures.0 ∙ freed_cr _ _ c.if-l.true
 
-pub returns : goal.returns
-returns c = freed_none _ _ c.if-l.false
+pub returns-else-l : goal.returns-else-l
+returns-else-l c = freed_none _ _ c.if-l.false

@@ -1,9 +1,0 @@
--- The count stays within its bound.
-use Prim.Native.Nat.{◌≤◌, ◌-◌}
-use Rattle.vectors_des.proofs.variable_key.Given as goal
-
-abbrev pub invariant-loop-i : goal.invariant-loop-i
-invariant-loop-i l = l.i ≤ 64
-
-abbrev pub decreases-loop-i : goal.decreases-loop-i
-decreases-loop-i l = 64 - l.i
