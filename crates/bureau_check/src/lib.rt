@@ -10,7 +10,6 @@ use cli_terminal::options::Words;
 use cli_terminal::program::Program;
 use cli_terminal::say;
 use cli_terminal::status::{Status, Told};
-use desk::Finding;
 use size_limit::Growing;
 use std::fs::File;
 use std::io;
@@ -270,10 +269,6 @@ fn checked_as(d: &[u8], i: usize, line: &[u8]) -> desk::Checked {
     desk::check_pte(h, s, line)
 }
 
-fn is_passing(f: &Finding) -> bool {
-    matches!(f, Finding::Passes)
-}
-
 // The four digits of the bank's code, of a reply that passes.
 fn code_in(line: &[u8]) -> [u8; 4] {
     let mut code = [b'0'; 4];
@@ -292,7 +287,7 @@ fn one_reply(
     before: Progress,
 ) -> io::Result<Progress> {
     let c = checked_as(d, i, line);
-    let passes = is_passing(&c.finding);
+    let passes = c.finding.is_ok();
     let key_before = working(d);
     bureau_file::set_held(d, c.held);
     answer(d, i, passes, c.letter, code_in(line));

@@ -134,15 +134,15 @@ pub fn reply(
     out: &mut Growing,
     d: &[u8],
     i: usize,
-    f: &Finding,
+    f: &Result<(), Finding>,
     letter: u8,
     line: &[u8],
 ) -> io::Result<()> {
     place(out, d, i)?;
     word(out, line)?;
     match *f {
-        Finding::Passes => passing(out, letter, line),
-        Finding::Fails { code, field } => finding(out, code, field),
+        Ok(()) => passing(out, letter, line),
+        Err(Finding { code, field }) => finding(out, code, field),
     }
 }
 
