@@ -3,9 +3,8 @@
 #![tactic(auto)]
 
 use calendar::CalendarDays;
-use Option<calendar::CalendarDays>;
-use table_calls::{Adding, Entering, Ordering, Setting};
 use refusals::Refusal;
+use table_calls::{Adding, Entering, Ordering, Setting};
 
 const STDOUT_FILENO: i32 = 1;
 
