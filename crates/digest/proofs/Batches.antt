@@ -11,7 +11,7 @@ use Rattle.des.specs.Des.{schedule_of, enciphered}
 use Rattle.des.specs.Joined.{joined, joined_by}
 use Rattle.des.proofs.Laws.{Each, none}
 use Rattle.des.proofs.Joined.{joined-cipher}
-use Rattle.digest.specs.Mac.{mac, checksum_of}
+use Rattle.digest.specs.Mac.{checksum_of}
 use Rattle.digest.specs.Kept.{is_empty, stripped, kept_of, kept, digest_of}
 use Rattle.digest.specs.Running.{begun, fed_byte, fed_bytes, closed, answered, alike, took_byte, took_bytes, ended, took_last, took_records}
 use Rattle.digest.specs.declared.Method.{Method}

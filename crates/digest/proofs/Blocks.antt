@@ -1,7 +1,7 @@
 -- Bytes block by block: as many as a block lacks fill it, fewer join it, and a chain that is kept without its last permutation goes on
 -- without the next one's first.
 -- Assumes nothing.
-use Rattle.std.proofs.Common.{◌≡◌, ℕ, suc, ◌+◌, ◌-◌, ◌%◌, ◌^◌, ◌<◌, ◌≤◌, List, [], ◌∷◌, map, length, get_or, take, drop, sym, refl, ap, ◌∙◌, ap₂, add-one, arith, length-drop, take-append-drop, drop_of_length-le, length-take-le, take_all, drop-cons, drop-drop}
+use Rattle.std.proofs.Common.{◌≡◌, ℕ, suc, ◌+◌, ◌-◌, ◌%◌, ◌^◌, ◌<◌, ◌≤◌, List, [], ◌∷◌, map, length, get_or, take, drop, sym, refl, ap, ◌∙◌, ap₂, add-one, arith, take-append-drop, drop_of_length-le, length-take-le, drop-cons}
 use mathlib.Core.List.{map-append}
 use lib.Bits.{bit_xor}
 use lib.ListN.{length-map}

@@ -1,6 +1,6 @@
 -- The blanks at a record's end are left out one by one from the end, up to the first character that is none.
 -- Assumes nothing.
-use Rattle.std.proofs.Common.{◌≡◌, ℕ, ◌+◌, ◌-◌, ◌≤◌, Bool, true, false, eqb, List, [], ◌∷◌, ◌++◌, length, get_or, take, sym, refl, ap, ◌∙◌, add-one, arith, take-suc, ne_eqb}
+use Rattle.std.proofs.Common.{◌≡◌, ℕ, ◌+◌, ◌≤◌, Bool, true, false, eqb, List, [], ◌∷◌, ◌++◌, length, get_or, take, sym, refl, ap, ◌∙◌, add-one, arith, take-suc, ne_eqb}
 use Rattle.ground.specs.Choice.{both, pick}
 use Rattle.text.specs.Characters.{blank}
 use Rattle.digest.specs.Kept.{is_empty, stripped}

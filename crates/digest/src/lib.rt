@@ -88,14 +88,22 @@ fn fed(table: &[u32; 512], keys: [u64; 16], s: State, bytes: &[u8]) -> State
 {
     let n = s.n.wrapping_add(bytes.len() as u64);
     let Some((head, mut rest)) = bytes.split_at_checked((8 - s.n % 8) as usize) else {
-        return State { block: packed(s.block, bytes), n, ..s };
+        return State {
+            block: packed(s.block, bytes),
+            n,
+            ..s
+        };
     };
     let mut y = des::between(table, keys, des::first(s.chain ^ packed(s.block, head)));
     while let Some((block, after)) = rest.split_first_chunk::<8>() {
         y = des::between(table, keys, y ^ des::first(packed(0, block)));
         rest = after;
     }
-    State { chain: des::last(y), block: packed(0, rest), n }
+    State {
+        chain: des::last(y),
+        block: packed(0, rest),
+        n,
+    }
 }
 
 // How many characters stand before the blanks at the end.
@@ -117,10 +125,17 @@ pub fn run(table: &[u32; 512], keys: [u64; 16], r: Running, bytes: &[u8]) -> Run
 {
     let n = solid_length(bytes);
     if n == 0 {
-        return Running { last: fed(table, keys, r.last, bytes), ..r };
+        return Running {
+            last: fed(table, keys, r.last, bytes),
+            ..r
+        };
     }
     let solid = fed(table, keys, r.last, &bytes[..n]);
-    Running { solid, last: fed(table, keys, solid, &bytes[n..]), ..r }
+    Running {
+        solid,
+        last: fed(table, keys, solid, &bytes[n..]),
+        ..r
+    }
 }
 
 // The solid state after characters more: the blanks at their end aren't enciphered.
@@ -141,7 +156,11 @@ pub fn run_last(table: &[u32; 512], keys: [u64; 16], m: Method, r: Running, byte
         Method::Skh => solid_after(table, keys, r, bytes),
         Method::Ske => fed(table, keys, r.last, bytes),
     };
-    Running { solid: last, last, ..r }
+    Running {
+        solid: last,
+        last,
+        ..r
+    }
 }
 
 // A record's end.

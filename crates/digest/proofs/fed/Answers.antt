@@ -1,5 +1,5 @@
 -- The characters fill the block on its way, then whole ones, and what is left joins the next.
-use Rattle.std.proofs.Common.{◌≡◌, ◌+◌, ◌-◌, ◌%◌, ◌^◌, ◌≤◌, ◌<◌, length, refl, ◌∙◌, arith, rules}
+use Rattle.std.proofs.Common.{◌+◌, ◌-◌, ◌%◌, ◌^◌, refl, ◌∙◌, arith, rules}
 use Rattle.digest.proofs.Blocks.{fed_few, fed_head, fed_block, fed_rest}
 use Rattle.digest.proofs.fed.Goals as goal
 
@@ -38,6 +38,6 @@ loop-block-preserved c =
 pub returns : goal.returns
 returns c =
     let v = c.loop-block.invariant in
-    fed_rest _ _ _ v.0 c.loop-block.rest.now v.1 v.2 c.in_default-split_first_chunk.ensures.cases
+    fed_rest _ _ _ v.0 c.loop-block.rest.now v.1 v.2 (search rules)
     c.last.ensures c.packed-3.ensures v.3
     ∙ v.5
