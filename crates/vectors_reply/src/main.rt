@@ -72,11 +72,7 @@ fn no_keys() -> [Option<u64>; 3] {
 }
 
 fn keys() -> [Option<u64>; 3] {
-    [
-        Some(0x0123456789ABCDEF),
-        Some(0x133457799BBCDFF1),
-        None,
-    ]
+    [Some(0x0123456789ABCDEF), Some(0x133457799BBCDFF1), None]
 }
 
 fn keyed(pte: bool, bare: bool, code: u32, field: u32, size: usize) {
