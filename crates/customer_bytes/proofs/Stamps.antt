@@ -107,6 +107,15 @@ module _ (l : List ℕ) where
       ∙ sym (both_assoc (both a b) _ z)
       ∙ ap (λ (x : Bool). both x z) (crossed a b _ _)
 
+  pub stamps_tests : (n o q : ℕ) → n ≤ 64 → sound_stamps n (dec (numbers 64 8) o l) (dec (numbers 64 8) q l)
+      ≡ both (every (real_at l) 8 n o)
+      (both (every (once_at l) 8 n q) (both (every (zero_at l) 8 (64 - n) (o + 8 * n)) (every (zero_at l) 8 (64 - n) (q + 8 * n))))
+  stamps_tests n o q h =
+      ap₂ (sound_stamps n) (numbers-run 64 o l) (numbers-run 64 q l)
+      ∙ used_tests n 64 (64 - n) o q (o + 8 * n) (q + 8 * n) (omega arith) refl refl
+      ∙ both_assoc _ _ _
+      ∙ ap (λ (x : Bool). both (every (real_at l) 8 n o) (both (every (once_at l) 8 n q) x)) (room_tests (64 - n) _ _)
+
   -- the room after the first n numbers
   room_run : (n o e : ℕ) → n ≤ 64 → e ≡ o + 512 → every (zero_at l) 8 (64 - n) (o + 8 * n)
       ≡ list_all (λ b. eqb b 0) (take (e - (o + 8 * n)) (drop (o + 8 * n) l))
@@ -115,14 +124,12 @@ module _ (l : List ℕ) where
       let w : 8 * (64 - n) ≡ e - (o + 8 * n) = omega arith in
       sym (zeros_run l (64 - n) (o + 8 * n)) ∙ ap (λ (k : ℕ). zeros (take k (drop (o + 8 * n) l))) w
 
-  pub stamps_tests : (n o : ℕ) → n ≤ 64 → sound_stamps n (dec (numbers 64 8) o l) (dec (numbers 64 8) (o + 512) l)
+  -- the same for the two arrays of a record, whose room is looked at byte by byte
+  pub stamps_run : (n o : ℕ) → n ≤ 64 → sound_stamps n (dec (numbers 64 8) o l) (dec (numbers 64 8) (o + 512) l)
       ≡ (every (real_at l) 8 n o
       && (every (once_at l) 8 n (o + 512)
       && (list_all (λ b. eqb b 0) (take (o + 512 - (o + 8 * n)) (drop (o + 8 * n) l))
       && list_all (λ b. eqb b 0) (take (o + 512 + 512 - (o + 512 + 8 * n)) (drop (o + 512 + 8 * n) l)))))
-  stamps_tests n o h =
-      ap₂ (sound_stamps n) (numbers-run 64 o l) (numbers-run 64 (o + 512) l)
-      ∙ used_tests n 64 (64 - n) o (o + 512) (o + 8 * n) (o + 512 + 8 * n) (omega arith) refl refl
-      ∙ both_assoc _ _ _
-      ∙ ap (λ (x : Bool). both (every (real_at l) 8 n o) (both (every (once_at l) 8 n (o + 512)) x)) (room_tests (64 - n) _ _)
+  stamps_run n o h =
+      stamps_tests n o (o + 512) h
       ∙ rw (room_run n o (o + 512) h refl, room_run n (o + 512) (o + 512 + 512) h refl) (simp both_is)

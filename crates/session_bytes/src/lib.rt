@@ -2,8 +2,9 @@
 
 #![tactic(auto)]
 
-ghost use Rattle.std.specs.Prelude.{◌≡◌, ◌+◌, ◌≤◌, length};
-ghost use Rattle.splices.specs.Bytes.{splice};
+ghost use Rattle.std.specs.Prelude.{◌≡◌, ◌+◌, ◌≤◌, leb, length};
+ghost use Rattle.ground.specs.Lists.{part};
+ghost use Rattle.splices.specs.Bytes.{num, splice};
 ghost use Rattle.codec.specs.Layout.{perhaps, enc, dec, ok, Sized};
 ghost use Rattle.session_bytes.specs.Names.{place_number, place_numbered, extent_number, extent_numbered};
 ghost use Rattle.session_bytes.specs.Session.{session_size, head_shape, line_shape, front_shape, gathered_shape, suo_shape, once_shape, state_shape};
@@ -147,19 +148,27 @@ fn is_exact_key(b: &[u8]) -> bool
     codec::read1(b, 391) == 1 || codec::same_at(&[0; 9], b, 391)
 }
 
+// Whether a byte is a flag's: 0 or 1.
+fn is_flag(b: &[u8], at: usize) -> bool
+    requires { at + 1 ≤ length b.now }
+    ensures { result ≡ leb (num (part at 1 b.now)) 1 }
+{
+    codec::read1(b, at) <= 1
+}
+
 // Whether bytes are a session's.
 pub fn is_session(b: &[u8]) -> bool
     ensures { result ≡ is_session b.now }
 {
     b.len() == SIZE
-        && codec::read1(b, 0) <= 1
-        && codec::read1(b, 1) <= 1
-        && codec::read1(b, 2) <= 1
+        && is_flag(b, 0)
+        && is_flag(b, 1)
+        && is_flag(b, 2)
         && codec::read1(b, 3) <= 6
-        && codec::read1(b, 61) <= 1
-        && codec::read1(b, 66) <= 1
+        && is_flag(b, 61)
+        && is_flag(b, 66)
         && codec::read1(b, 228) <= 4
-        && codec::read1(b, 229) <= 1
+        && is_flag(b, 229)
         && is_exact_key(b)
 }
 
