@@ -35,14 +35,6 @@ pub room_for : (replies places : List ℕ) → capacity replies places ≤ lengt
 unfolding capacity
 room_for replies places = smaller_second _ _
 
-pub capacity_slots : (replies places : List ℕ) → length replies / 317 < length places → length replies / 317 ≡ capacity replies places
-unfolding capacity smaller
-capacity_slots replies places h = sym (picks {A = ℕ} _ _ _ (lt-ltb _ _ h))
-
-pub capacity_places : (replies places : List ℕ) → length places ≤ length replies / 317 → length places ≡ capacity replies places
-unfolding capacity smaller
-capacity_places replies places h = sym (skips {A = ℕ} _ _ _ (le-ltb _ _ h))
-
 -- ---- lengths stay
 
 module _ (c : ℕ) where
