@@ -140,6 +140,7 @@ pub fn read_full<R: Read>(input: &mut R, room: &mut [u8]) -> usize
 }
 
 // How many bytes were read, and whether the room's end or the file's ended them, or a read that failed.
+// kept: the count is what each read adds to; no method of std reads until the room is full and tells how much came before a failure.
 fn fill<R: Read>(input: &mut R, room: &mut [u8]) -> (usize, io::Result<()>)
     ensures { result.0 ≤ length room.new }
 {

@@ -1,45 +1,36 @@
 // The command explain: replies for people.
 use cli_explain::{Count, Unfinished, Untold};
+use cli_help::Command;
 use cli_terminal::options::Words;
-use cli_terminal::program::Program;
+use cli_terminal::program::Program::Lentilpot;
 use cli_terminal::say;
 use cli_terminal::status::{Status, Told};
 use std::fs::File;
-
-fn of_count(count: Count) -> Status {
-    if count.refused == 0 {
-        return Status::Served;
-    }
-    Status::Refused
-}
 
 // Why the replies were not told whole.
 fn tell(rt: &HostRuntime, path: &[u8], why: Untold) {
     match why {
         Untold::NotReplies => cli_beside::tell(
             rt,
-            Program::Lentilpot,
+            Lentilpot,
             path,
             b"not a file of replies: expected one that 'receive' wrote, each reply of 237 or 317 characters and an LF\n",
         ),
         Untold::Unread(e) => {
-            say::trouble(rt, Program::Lentilpot, b"can't read the replies", path, &e);
+            say::trouble(rt, Lentilpot, b"can't read the replies", path, &e);
         }
         Untold::Unwritten(e) => {
-            let _ = say::is_said(
-                rt,
-                Program::Lentilpot,
-                Err(e),
-                b"the replies can't be shown: ",
-            );
+            let _ = say::is_said(rt, Lentilpot, Err(e), b"the replies can't be shown: ");
         }
     }
 }
 
+// The status says whether some are refusals.
 fn explained(rt: &HostRuntime, path: &[u8], input: &mut File) -> Result<Status, Told> {
     match cli_explain::replies(input, &mut rt.stdout()) {
-        Ok(count) => Ok(of_count(count)),
-        Err(Unfinished { why, count: _ }) => {
+        Ok(Count { refused: 0, .. }) => Ok(Status::Served),
+        Ok(_) => Ok(Status::Refused),
+        Err(Unfinished { why, .. }) => {
             tell(rt, path, why);
             Err(Told)
         }
@@ -47,12 +38,12 @@ fn explained(rt: &HostRuntime, path: &[u8], input: &mut File) -> Result<Status, 
 }
 
 pub fn explain(rt: &HostRuntime, words: &Words) -> Result<Status, Told> {
-    cli_help::are_as_many(rt, words, 7, 3, 3)?;
-    words.are_taken(rt, Program::Lentilpot, b"")?;
-    let path = cli_names::of(rt, Program::Lentilpot, words.word(2), b"REPLIES")?;
+    cli_help::are_as_many(rt, words, Command::Explain, 3, 3)?;
+    words.are_taken(rt, Lentilpot, b"")?;
+    let path = cli_names::of(rt, Lentilpot, words.word(2), b"REPLIES")?;
     let mut input = cli_beside::open_told(
         rt,
-        Program::Lentilpot,
+        Lentilpot,
         b"can't open the replies",
         path.as_slice(),
     )?;

@@ -8,22 +8,23 @@ ghost use Rattle.std.specs.Process.{exit_status};
 
 mod explaining;
 
+use cli_help::Command;
 use cli_terminal::options::Words;
-use cli_terminal::program::Program;
+use cli_terminal::program::Program::Lentilpot;
 use cli_terminal::status::{Status, Told};
 use cli_terminal::{say, status};
 use std::process::ExitCode;
 
-fn served(rt: &HostRuntime, words: &Words, command: u32) -> Result<Status, Told> {
+fn served(rt: &HostRuntime, words: &Words, command: Command) -> Result<Status, Told> {
     match command {
-        1 => cli_keep::setup(rt, words),
-        2 => cli_keep::add(rt, words),
-        3 => cli_keep::key(rt, words),
-        4 => cli_keep::order(rt, words),
-        5 => cli_receive::receive(rt, words),
-        6 => cli_show::show(rt, words),
-        7 => explaining::explain(rt, words),
-        _ => helped(rt, words),
+        Command::Setup => cli_keep::setup(rt, words),
+        Command::Add => cli_keep::add(rt, words),
+        Command::Key => cli_keep::key(rt, words),
+        Command::Order => cli_keep::order(rt, words),
+        Command::Receive => cli_receive::receive(rt, words),
+        Command::Show => cli_show::show(rt, words),
+        Command::Explain => explaining::explain(rt, words),
+        Command::Help => helped(rt, words),
     }
 }
 
@@ -31,7 +32,7 @@ fn served(rt: &HostRuntime, words: &Words, command: u32) -> Result<Status, Told>
 fn shown(rt: &HostRuntime, text: &[u8]) -> Result<Status, Told> {
     status::served_if(say::is_said(
         rt,
-        Program::Lentilpot,
+        Lentilpot,
         say::out(rt, text),
         b"the help can't be shown: ",
     ))
@@ -39,40 +40,37 @@ fn shown(rt: &HostRuntime, text: &[u8]) -> Result<Status, Told> {
 
 // `help`, and `help COMMAND`.
 fn helped(rt: &HostRuntime, words: &Words) -> Result<Status, Told> {
-    cli_help::are_as_many(rt, words, 8, 2, 3)?;
+    cli_help::are_as_many(rt, words, Command::Help, 2, 3)?;
     if words.count() == 2 {
         return shown(rt, cli_help::whole());
     }
-    let command = cli_help::command_of(words.word(2));
-    if command == 0 {
+    let Some(command) = cli_help::command_of(words.word(2)) else {
         cli_help::tell_names(rt);
         return Err(Told);
-    }
+    };
     shown(rt, cli_help::of(command))
 }
 
 // A command, or what was asked in place of one.
 fn of_words(rt: &HostRuntime, words: &Words) -> Result<Status, Told> {
-    let command = cli_help::command_of(words.word(1));
-    if words.is_given(b"--help") || words.is_given(b"-h") {
-        if command == 0 {
-            return shown(rt, cli_help::whole());
+    let is_help = words.is_given(b"--help") || words.is_given(b"-h");
+    match cli_help::command_of(words.word(1)) {
+        Some(command) if is_help => shown(rt, cli_help::of(command)),
+        Some(command) => served(rt, words, command),
+        None if is_help => shown(rt, cli_help::whole()),
+        None if words.count_all() == 2 && words.is_given(b"--version") => {
+            shown(rt, cli_help::version())
         }
-        return shown(rt, cli_help::of(command));
+        None => {
+            cli_help::tell_names(rt);
+            Err(Told)
+        }
     }
-    if command != 0 {
-        return served(rt, words, command);
-    }
-    if words.count_all() == 2 && words.is_given(b"--version") {
-        return shown(rt, cli_help::version());
-    }
-    cli_help::tell_names(rt);
-    Err(Told)
 }
 
 fn asked(rt: &HostRuntime) -> Result<Status, Told> {
-    cli_asked::are_open(rt, Program::Lentilpot)?;
-    let words = cli_asked::words(rt, Program::Lentilpot)?;
+    cli_asked::are_open(rt, Lentilpot)?;
+    let words = cli_asked::words(rt, Lentilpot)?;
     of_words(rt, &words)
 }
 
