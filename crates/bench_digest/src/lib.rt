@@ -14,6 +14,5 @@ pub extern "C" fn lp_bench_digest(key: u64, bytes: &[u8]) -> u64
     let table = des::joined_table();
     let keys = des::schedule(key);
     let r = digest::run(&table, keys, digest::at_record(digest::start()), bytes);
-    let s = r.last;
-    s.chain
+    r.last.chain
 }

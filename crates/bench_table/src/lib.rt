@@ -12,12 +12,10 @@ pub extern "C" fn lp_bench_is_table(t: &[u8], count: u64) -> u64
     ensures { result ≡ counted (is_table t.now) count }
 {
     let mut n: u64 = 0;
-    let mut i: u64 = 0;
-    while i < count {
+    for _ in 0..count {
         if table::is_table(t) {
             n += 1;
         }
-        i += 1;
     }
     n
 }

@@ -12,10 +12,10 @@ fn say(words: &[u8]) {
 
 // A reply into the first bytes of a room.
 fn write_in(room: &mut [u8], size: usize, a: Answering) -> usize {
-    if room.len() < size {
-        return 0;
+    match room.get_mut(..size) {
+        Some(room) => reply::write(room, a),
+        None => 0,
     }
-    reply::write(&mut room[..size], a)
 }
 
 fn show(a: Answering, size: usize) {
@@ -42,9 +42,7 @@ fn answering_with(
     contents: message::Contents,
     keys: [Option<u64>; 3],
 ) -> Answering {
-    let working = keys[0];
-    let transport = keys[1];
-    let enclosed = keys[2];
+    let [working, transport, enclosed] = keys;
     Answering {
         pte,
         bare,
@@ -104,10 +102,8 @@ fn show_code(code: u32) {
 
 // Every code, and some numbers that are none.
 fn show_codes() {
-    let mut code = 1000;
-    while code < 1039 {
+    for code in 1000..1039 {
         show_code(code);
-        code += 1;
     }
 }
 
@@ -125,12 +121,10 @@ fn show_notice(code: u32, field: u32) {
 }
 
 fn show_notices(code: u32) {
-    let mut field = 0;
-    while field < 221 {
+    for field in 0..221 {
         if field % 10 < 4 {
             show_notice(code, field);
         }
-        field += 1;
     }
 }
 
@@ -177,7 +171,7 @@ const PTE: [u8; 144] =
 
 fn as_printed(sum: &[u8], printed: &[u8]) {
     say(sum);
-    if text::same_bytes(sum, printed) {
+    if sum == printed {
         say(b" as printed\n");
     } else {
         say(b" where printed is ");

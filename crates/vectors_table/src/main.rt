@@ -28,8 +28,8 @@ fn judge(label: &[u8], t: &[u8]) {
 
 // The byte at a place, one more.
 fn more(t: &mut [u8], at: usize) {
-    if at < t.len() {
-        t[at] = (t[at] % 255) + 1;
+    if let Some(byte) = t.get_mut(at) {
+        *byte = *byte % 255 + 1;
     }
 }
 
@@ -71,8 +71,8 @@ fn person(first: u8, second: u8) -> Customer {
             }),
         },
         count: 1,
-        stamps: stamps,
-        once: once,
+        stamps,
+        once,
     }
 }
 
@@ -81,7 +81,7 @@ fn bank() -> customer::Settings {
     software[0] = b'S';
     customer::Settings {
         bank: name(b'B', b'K'),
-        software: software,
+        software,
         floor: 110,
         maker: keys::KeyMaker {
             key: 0x0123456789ABCDEF,
@@ -119,10 +119,9 @@ fn show(t: &[u8]) {
     say_number(b"customers ", table::customer_count(t) as u64);
     show_place(b"place of AB ", t, name(b'A', b'B'));
     show_place(b"place of AC ", t, name(b'A', b'C'));
-    let c = table::load(t, 1);
-    say_number(b"its first stamp ", c.stamps[0]);
+    say_number(b"its first stamp ", table::load(t, 1).stamps[0]);
     let s = table::settings(t);
-    say_number(b"floor ", s.floor as u64);
+    say_number(b"floor ", u64::from(s.floor));
     say_number(b"seed ", s.maker.seed);
 }
 
@@ -138,20 +137,15 @@ fn changed(t: &mut [u8]) {
 fn show_change(t: &[u8]) {
     judge(b"another day, seed and customer", t);
     say_number(b"day ", table::day(t).yymmdd as u64);
-    let s = table::settings(t);
-    say_number(b"seed ", s.maker.seed);
-    let c = table::load(t, 1);
-    say_number(b"stamps of AB ", c.count as u64);
-    let d = table::load(t, 0);
-    say_number(b"stamps of AA ", d.count as u64);
+    say_number(b"seed ", table::settings(t).maker.seed);
+    say_number(b"stamps of AB ", u64::from(table::load(t, 1).count));
+    say_number(b"stamps of AA ", u64::from(table::load(t, 0).count));
 }
 
 // Customers up to the limit and one beyond it.
 fn fill(t: &mut [u8]) {
-    let mut i: u8 = 0;
-    while i < 31 {
+    for i in 0..31u8 {
         table::add(t, person(b'C' + i / 10, b'0' + i % 10));
-        i += 1;
     }
 }
 
@@ -212,8 +206,8 @@ fn records(t: &mut [u8]) {
 
 fn short(t: &[u8]) {
     judge(b"whole buffer", t);
-    if 0 < t.len() {
-        judge(b"buffer one byte short", &t[..t.len() - 1]);
+    if let [front @ .., _] = t {
+        judge(b"buffer one byte short", front);
     }
 }
 

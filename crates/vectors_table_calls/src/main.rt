@@ -30,40 +30,17 @@ fn answer(label: &[u8], outcome: Result<(), Refusal>) {
     say_number(label, refusals::code(outcome) as u64);
 }
 
-fn digit(x: u64) -> u8 {
-    let d = (x % 16) as u8;
-    if d < 10 { 48 + d } else { 55 + d }
-}
-
 fn say_key(label: &[u8], x: u64) {
-    let line = [
-        digit(x >> 60),
-        digit(x >> 56),
-        digit(x >> 52),
-        digit(x >> 48),
-        digit(x >> 44),
-        digit(x >> 40),
-        digit(x >> 36),
-        digit(x >> 32),
-        digit(x >> 28),
-        digit(x >> 24),
-        digit(x >> 20),
-        digit(x >> 16),
-        digit(x >> 12),
-        digit(x >> 8),
-        digit(x >> 4),
-        digit(x),
-        b'\n',
-    ];
     say(label);
     say(b": ");
-    say(&line);
+    say(&text::hex_digits(x));
+    say(b"\n");
 }
 
 // ---- what is passed
 
 fn date(yymmdd: u32) -> calendar::Date {
-    calendar::Date { yymmdd: yymmdd }
+    calendar::Date { yymmdd }
 }
 
 // Appendix 3's identity, with a qualifier that is blank but for its first character.
@@ -85,7 +62,7 @@ fn setting(floor: u32) -> Setting {
     Setting {
         bank: other(b'B', b'K'),
         software: *b"FRONT END       ",
-        floor: floor,
+        floor,
         key: 0x0123456789ABCDEF,
         seed: 7,
     }
@@ -102,7 +79,7 @@ fn adding_for(w: [u8; 25], today: u32, length: Option<CalendarDays>) -> Adding {
         types: 0x8001,
         agreed: true,
         leave: false,
-        length: length,
+        length,
     }
 }
 
@@ -117,7 +94,7 @@ fn entering(w: [u8; 25], today: u32, generation: u32) -> Entering {
         part1: PART1,
         part2: PART2,
         check: CHECK,
-        generation: generation,
+        generation,
     }
 }
 
@@ -137,30 +114,21 @@ fn show_last(label: &[u8], p: Option<customer::Changeover>) {
             say(label);
             say(b": none\n");
         }
-        Some(c) => {
-            let last = c.last;
-            say_number(label, last.yymmdd as u64);
-        }
+        Some(c) => say_number(label, u64::from(c.last.yymmdd)),
     }
 }
 
 fn show(t: &[u8], i: usize) {
     let c = table::load(t, i);
-    let transport = c.transport;
-    let working = c.working;
     say_number(b"  day", table::day(t).yymmdd as u64);
     say_number(b"  length", c.length.0 as u64);
-    say_number(b"  transport generation", transport.generation as u64);
-    say_key(b"  transport key", transport.key);
-    let before = transport.previous;
-    show_last(b"  previous until", before);
-    say_number(b"  working generation", working.generation as u64);
-    say_key(b"  working key", working.key);
-    let old = working.previous;
-    show_last(b"  previous until", old);
-    let s = table::settings(t);
-    let maker = s.maker;
-    say_key(b"  seed", maker.seed);
+    say_number(b"  transport generation", c.transport.generation as u64);
+    say_key(b"  transport key", c.transport.key);
+    show_last(b"  previous until", c.transport.previous);
+    say_number(b"  working generation", c.working.generation as u64);
+    say_key(b"  working key", c.working.key);
+    show_last(b"  previous until", c.working.previous);
+    say_key(b"  seed", table::settings(t).maker.seed);
 }
 
 // ---- set up
@@ -201,9 +169,10 @@ fn settings(t: &mut [u8]) {
         b"set up, 201 holidays, 11",
         table_calls::set_up(t, setting(110), &many),
     );
-    let mut blank = setting(120);
-    let name = [b' '; 16];
-    blank.software = name;
+    let blank = Setting {
+        software: [b' '; 16],
+        ..setting(120)
+    };
     answer(
         b"set up, name blank, 11",
         table_calls::set_up(t, blank, &good),
@@ -224,8 +193,10 @@ fn adds(t: &mut [u8]) {
         table_calls::add(t, adding(who(b' '), 991201)),
     );
     show(t, 0);
-    let mut even = adding(who(b' '), 991202);
-    even.part1 = PART1 - 1;
+    let even = Adding {
+        part1: PART1 - 1,
+        ..adding(who(b' '), 991202)
+    };
     answer(
         b"add, already there and parity even, 6",
         table_calls::add(t, even),
@@ -244,25 +215,33 @@ fn adds(t: &mut [u8]) {
 
 fn bad_adds(t: &mut [u8]) {
     let w = other(b'A', b'A');
-    let mut a = adding(w, 991201);
-    a.part2 = PART2 - 1;
-    a.check = 0;
+    let a = Adding {
+        part2: PART2 - 1,
+        check: 0,
+        ..adding(w, 991201)
+    };
     answer(
         b"add, parity even and check value differs, 8",
         table_calls::add(t, a),
     );
-    let mut b = adding(w, 991201);
-    b.check = 0x028E4D;
-    b.generation = 10;
+    let b = Adding {
+        check: 0x028E4D,
+        generation: 10,
+        ..adding(w, 991201)
+    };
     answer(
         b"add, check value differs and generation 10, 9",
         table_calls::add(t, b),
     );
-    let mut c = adding(w, 991201);
-    c.generation = 10;
+    let c = Adding {
+        generation: 10,
+        ..adding(w, 991201)
+    };
     answer(b"add, generation 10, 11", table_calls::add(t, c));
-    let mut d = adding(w, 991201);
-    d.types = 65536;
+    let d = Adding {
+        types: 65536,
+        ..adding(w, 991201)
+    };
     answer(b"add, type 17, 11", table_calls::add(t, d));
     answer(
         b"add, identity blank, 11",
@@ -280,8 +259,10 @@ fn lengths(t: &mut [u8]) {
         b"add, length 61, 11",
         table_calls::add(t, adding_for(w, 991201, Some(CalendarDays(61)))),
     );
-    let mut c = adding_for(w, 991201, Some(CalendarDays(60)));
-    c.generation = 9;
+    let c = Adding {
+        generation: 9,
+        ..adding_for(w, 991201, Some(CalendarDays(60)))
+    };
     answer(
         b"add, length 60 and generation 9, 0",
         table_calls::add(t, c),
@@ -296,21 +277,27 @@ fn bad_enters(t: &mut [u8]) {
         b"enter, bad day and no such customer, 4",
         table_calls::enter(t, entering(w, 991200, 1)),
     );
-    let mut a = entering(w, 991201, 1);
-    a.part1 = PART1 - 1;
+    let a = Entering {
+        part1: PART1 - 1,
+        ..entering(w, 991201, 1)
+    };
     answer(
         b"enter, no such customer and parity even, 7",
         table_calls::enter(t, a),
     );
-    let mut b = entering(who(b' '), 991201, 1);
-    b.part2 = PART2 - 1;
-    b.check = 0;
+    let b = Entering {
+        part2: PART2 - 1,
+        check: 0,
+        ..entering(who(b' '), 991201, 1)
+    };
     answer(
         b"enter, parity even and check value differs, 8",
         table_calls::enter(t, b),
     );
-    let mut c = entering(who(b' '), 991201, 2);
-    c.check = 0;
+    let c = Entering {
+        check: 0,
+        ..entering(who(b' '), 991201, 2)
+    };
     answer(
         b"enter, check value differs and generation not next, 9",
         table_calls::enter(t, c),
@@ -400,17 +387,17 @@ fn ends(t: &mut [u8]) {
 // ---- a full table
 
 fn fill(t: &mut [u8]) {
-    let mut i: u8 = 0;
-    while i < 29 {
-        table_calls::add(t, adding(other(65 + i / 10, 48 + i % 10), 791231));
-        i += 1;
+    for i in 0..29u8 {
+        table_calls::add(t, adding(other(b'A' + i / 10, b'0' + i % 10), 791231));
     }
     say_number(b"customers", table::customer_count(t) as u64);
 }
 
 fn full(t: &mut [u8]) {
-    let mut even = adding(other(b'G', b'G'), 791231);
-    even.part1 = PART1 - 1;
+    let even = Adding {
+        part1: PART1 - 1,
+        ..adding(other(b'G', b'G'), 791231)
+    };
     answer(
         b"add, table full and parity even, 5",
         table_calls::add(t, even),

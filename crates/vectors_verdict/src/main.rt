@@ -23,9 +23,7 @@ const AHEAD: u64 = 261114120000001;
 // A text written into a message from a place on.
 fn put(m: [u8; 161], at: usize, s: &[u8]) -> [u8; 161] {
     let mut out = m;
-    if at <= 161 {
-        text::copy(&mut out[at..], s);
-    }
+    text::copy(&mut out[at.min(161)..], s);
     out
 }
 
@@ -74,8 +72,8 @@ fn show(f: Result<(), message::Fault>) {
 fn occasion(kind: u32) -> checks::Occasion {
     let today = calendar::Date { yymmdd: 261113 };
     checks::Occasion {
-        today: today,
-        kind: kind,
+        today,
+        kind,
         clock: 0,
         made: 0,
     }
@@ -100,49 +98,18 @@ fn collected(extent: u32, m: [u8; 161]) -> message::Collected {
     }
 }
 
-#[derive(Drop)]
-struct Part {
-    from: usize,
-    to: usize,
-}
-
-// Where the part after so many bars lies; past the last part, an empty one.
-fn part_of(line: &[u8], bars: u32) -> Part
-    ensures { (result.from ≤ result.to) × (result.to ≤ length line.now) }
-{
-    let mut from = 0;
-    let mut left = bars;
-    let mut i = 0;
-    while i < line.len() {
-        if line[i] == b'|' {
-            if left == 0 {
-                return Part { from: from, to: i };
-            }
-            left -= 1;
-            from = i + 1;
-        }
-        i += 1;
-    }
-    if left == 0 {
-        return Part { from: from, to: i };
-    }
-    Part { from: i, to: i }
+// The part after so many bars; past the last part, an empty one.
+fn part_of(line: &[u8], bars: usize) -> &[u8] {
+    line.split(|&b| b == b'|').nth(bars).unwrap_or(b"")
 }
 
 // A message with one part of a line put in.
-fn changed(m: [u8; 161], line: &[u8], bars: u32) -> [u8; 161] {
-    let p = part_of(line, bars);
-    let from = p.from;
-    let to = p.to;
-    if to - from < 3 {
+fn changed(m: [u8; 161], line: &[u8], bars: usize) -> [u8; 161] {
+    let part = part_of(line, bars);
+    if part.len() < 3 {
         return m;
     }
-    let words = from + 3;
-    put(
-        m,
-        text::number(&line[from..words]) as usize,
-        &line[words..to],
-    )
+    put(m, text::number(&part[..3]) as usize, &part[3..])
 }
 
 // An ESI or VAR as a line changes it.
@@ -151,10 +118,7 @@ fn closed(m: [u8; 161], line: &[u8]) -> [u8; 161] {
 }
 
 fn digit(b: u8) -> u32 {
-    if b < b'0' {
-        return 0;
-    }
-    (b - b'0') as u32
+    u32::from(b.saturating_sub(b'0'))
 }
 
 fn once_of(mark: u8) -> Option<u64> {
@@ -167,10 +131,10 @@ fn once_of(mark: u8) -> Option<u64> {
 }
 
 fn digest_of(mark: u8) -> Option<u64> {
-    if mark == b'N' {
-        return None;
+    match mark {
+        b'N' => None,
+        _ => Some(WORKING),
     }
-    Some(WORKING)
 }
 
 fn esi_case(t: &[u8], line: &[u8], marks: [u8; 6]) {
@@ -179,15 +143,11 @@ fn esi_case(t: &[u8], line: &[u8], marks: [u8; 6]) {
 }
 
 fn frame_of(line: &[u8], marks: [u8; 6]) -> checks::Frame {
-    let opening = collected(digit(marks[2]), changed(changed(suo(), line, 5), line, 6));
-    let closing = collected(digit(marks[3]), closed(var(), line));
-    let key = once_of(marks[4]);
-    let digest = digest_of(marks[5]);
     checks::Frame {
-        suo: opening,
-        var: closing,
-        once: key,
-        digest: digest,
+        suo: collected(digit(marks[2]), changed(changed(suo(), line, 5), line, 6)),
+        var: collected(digit(marks[3]), closed(var(), line)),
+        once: once_of(marks[4]),
+        digest: digest_of(marks[5]),
     }
 }
 
@@ -196,10 +156,7 @@ fn frame_case(t: &[u8], line: &[u8], marks: [u8; 6]) {
 }
 
 fn said(line: &[u8]) {
-    let p = part_of(line, 1);
-    let from = p.from;
-    let to = p.to;
-    io::write_all(1, &line[from..to]);
+    io::write_all(1, part_of(line, 1));
     io::write_all(1, b": ");
 }
 
@@ -216,38 +173,32 @@ fn judged(t: &[u8], line: &[u8]) {
 
 // Each line of some cases.
 fn each(t: &[u8], lines: &[u8]) {
-    let mut start = 0;
-    let mut i = 0;
-    while i < lines.len() {
-        if lines[i] == b'\n' {
-            judged(t, &lines[start..i]);
-            start = i + 1;
+    for line in lines.split_inclusive(|&b| b == b'\n') {
+        if let [line @ .., b'\n'] = line {
+            judged(t, line);
         }
-        i += 1;
     }
 }
 
 fn customer_of(who: [u8; 25], agreed: bool, count: u32, stamp: u64) -> customer::Customer {
-    let none = None;
     let transport = customer::KeyPair {
         generation: 1,
         key: TRANSPORT,
-        previous: none,
+        previous: None,
     };
     let working = customer::KeyPair {
-        generation: 1,
         key: WORKING,
-        previous: none,
+        ..transport
     };
     customer::Customer {
-        who: who,
+        who,
         types: 1,
-        agreed: agreed,
+        agreed,
         leave: true,
         length: calendar::CalendarDays(10),
-        transport: transport,
-        working: working,
-        count: count,
+        transport,
+        working,
+        count,
         stamps: [stamp; 64],
         once: [WORKING; 64],
     }
@@ -262,7 +213,7 @@ fn settings() -> customer::Settings {
         bank: *b"BANK             QUALIFY ",
         software: *b"BANKWARE 1.0    ",
         floor: 120,
-        maker: maker,
+        maker,
     }
 }
 

@@ -6,12 +6,11 @@ use Rattle.bench_table.proofs.Steps.{none, held, failed}
 use Rattle.bench_table.proofs.lp_bench_is_table.Goals.{else-is_table, then-is_table}
 use Rattle.bench_table.proofs.lp_bench_is_table.Goals as goal
 
-pub loop-i-init : goal.loop-i-init
-loop-i-init c = (omega arith, omega arith, none _)
+pub loop-init : goal.loop-init
+loop-init c = (omega arith, none _)
 
-pub loop-i-preserved : goal.loop-i-preserved
-loop-i-preserved c = (
-  omega arith,
+pub loop-preserved : goal.loop-preserved
+loop-preserved c = (
   elim c.if-is_table.branch [
     | then-is_table w ↦
         omega arith
@@ -20,13 +19,13 @@ loop-i-preserved c = (
   ],
   elim c.if-is_table.branch [
     | then-is_table w ↦
-        w.n-is ∙ held _ _ _ (sym c.is_table.ensures ∙ w.if-is_table.true) c.loop-i.invariant.2
+        w.n-is ∙ held _ _ _ (sym c.is_table.ensures ∙ w.if-is_table.true) c.loop.invariant.1
     | else-is_table w ↦
-        w.n-is ∙ failed _ _ _ (sym c.is_table.ensures ∙ w.if-is_table.false) c.loop-i.invariant.2
+        w.n-is ∙ failed _ _ _ (sym c.is_table.ensures ∙ w.if-is_table.false) c.loop.invariant.1
   ],
 )
 
 pub returns : goal.returns
 returns c =
-    let e : c.loop-i.i ≡ c.args.count = omega arith in
-    c.loop-i.invariant.2 ∙ ap (counted _) e
+    let e : c.loop.counter ≡ c.args.count = omega arith in
+    c.loop.invariant.1 ∙ ap (counted _) e
