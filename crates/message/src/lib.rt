@@ -18,7 +18,7 @@ ghost use Rattle.message.specs.Fields.{receiver_of, sender_of, stamp_of, date_of
 ghost use Rattle.message.specs.Fields.{working_generation_of, once_field_of, digest_field_of, checksum_field_of, request_of};
 
 // The messages that customers send.
-#[derive(Clone, Copy)]
+#[derive(Clone, Copy, Debug, PartialEq, Eq)]
 pub enum Kind {
     Esi,
     Suo,
@@ -26,7 +26,7 @@ pub enum Kind {
 }
 
 // What was collected of a message: the whole, or why it is one record alone or has no end.
-#[derive(Clone, Copy)]
+#[derive(Clone, Copy, Debug, PartialEq, Eq)]
 pub enum Extent {
     Whole,
     TooShort,
@@ -43,7 +43,7 @@ pub enum About {
 }
 
 // A message as it was collected: how much of it, whether the characters over in its last record were blank, and its characters.
-#[derive(Clone, Copy)]
+#[derive(Clone, Copy, Debug, PartialEq, Eq)]
 pub struct Collected {
     pub extent: Extent,
     pub blank: bool,
@@ -51,7 +51,7 @@ pub struct Collected {
 }
 
 // The characters of a field as received: how many there are, and zeros after them.
-#[derive(Clone, Copy)]
+#[derive(Clone, Copy, Debug, PartialEq, Eq)]
 pub struct Contents {
     pub count: usize,
     pub text: [u8; 17],
@@ -163,27 +163,20 @@ fn start_of(i: usize) -> usize
     STARTS[i]
 }
 
-fn least(a: usize, b: usize) -> usize
-    ensures { result ≡ min a b }
-{
-    if a <= b { a } else { b }
-}
-
 // The characters of the fields from one place of the order to before another, as far as the message goes.
 fn span(from: usize, to: usize, m: &[u8]) -> &[u8]
     requires { (from ≤ to) × (to ≤ 22) }
     ensures { result.now ≡ part (total (take from fields)) (total (take to fields) - total (take from fields)) m.now }
 {
-    let a = least(start_of(from), m.len());
-    let e = least(start_of(to), m.len());
-    &m[a..e]
+    &m[start_of(from).min(m.len())..start_of(to).min(m.len())]
 }
 
-// A test that is made only of some fields.
+// A test that is made only of some messages.
+#[tactic(auto, unfolding(ground::specs::Choice::either, ground::specs::Choice::fails))]
 fn only_if(asked: bool, holds: bool) -> bool
     ensures { result ≡ only asked holds }
 {
-    if asked { holds } else { true }
+    !asked || holds
 }
 
 // The fields that are digits. Neighbours stand in different arms, so that each number is a case of its own.
@@ -217,29 +210,22 @@ fn hex_holds(k: Kind, number: u32, text: &[u8]) -> bool
     }
 }
 
+#[tactic(auto, unfolding(crate::specs::Rules::format_holds, ground::specs::Choice::both, ground::specs::Choice::either, ground::specs::Choice::fails))]
 fn format_holds(k: Kind, blank_over: bool, number: u32, text: &[u8]) -> bool
     ensures { result ≡ format_holds (form_of k) blank_over number text.now }
 {
-    if !only_if(number / 10 <= 16, text::all_field_characters(text)) {
-        return false;
-    }
-    if !digits_hold(number / 10, text) {
-        return false;
-    }
-    if !hex_holds(k, number, text) {
-        return false;
-    }
-    only_if(number == 20, blank_over)
+    (16 < number / 10 || text::all_field_characters(text))
+        && digits_hold(number / 10, text)
+        && hex_holds(k, number, text)
+        && (number != 20 || blank_over)
 }
 
 // One of two texts.
+#[tactic(auto, using(ground::proofs::Std::words), unfolding(crate::specs::Rules::one_of))]
 fn one_of(a: &[u8], b: &[u8], text: &[u8]) -> bool
     ensures { result ≡ one_of (a.now ∷ b.now ∷ []) text.now }
 {
-    if text::same_bytes(a, text) {
-        return true;
-    }
-    text::same_bytes(b, text)
+    a == text || b == text
 }
 
 fn method_holds(k: Kind, text: &[u8]) -> bool
@@ -252,13 +238,11 @@ fn method_holds(k: Kind, text: &[u8]) -> bool
     }
 }
 
+#[tactic(auto, using(ground::proofs::Std::words), unfolding(crate::specs::Rules::one_of, text::specs::Letters::letters))]
 fn request_holds(text: &[u8]) -> bool
     ensures { result ≡ one_of (letters "0" ∷ letters "1" ∷ letters "2" ∷ []) text.now }
 {
-    if text::same_bytes(b"0", text) {
-        return true;
-    }
-    one_of(b"1", b"2", text)
+    matches!(text, b"0" | b"1" | b"2")
 }
 
 // Whether the version is one of those that have exact lengths.
@@ -360,8 +344,7 @@ fn first_broken(
 {
     let count = count_of(k);
     let exact = is_exact(m);
-    let mut i = 0;
-    while i < count {
+    for i in 0..count {
         let number = number_of(i);
         if !passes(values, k, exact, blank_over, number, span(i, i + 1, m)) {
             return Err(Fault {
@@ -370,7 +353,6 @@ fn first_broken(
                 about,
             });
         }
-        i += 1;
     }
     Ok(())
 }
@@ -379,11 +361,8 @@ fn first_broken(
 fn first_fault(k: Kind, about: About, blank_over: bool, m: &[u8]) -> Result<(), Fault>
     ensures { result ≡ first_failing (form_checks (form_of k) about (record { extent = Whole; blank = blank_over; text = m.now })) }
 {
-    let format = first_broken(false, 1010, about, k, blank_over, m);
-    match format {
-        Ok(()) => first_broken(true, 1011, about, k, blank_over, m),
-        Err(fault) => Err(fault),
-    }
+    first_broken(false, 1010, about, k, blank_over, m)?;
+    first_broken(true, 1011, about, k, blank_over, m)
 }
 
 // The first fault: of a message that is one record alone by what made it so.
@@ -438,7 +417,7 @@ fn contents_of(text: &[u8]) -> Contents
     let mut out = [0u8; 17];
     text::copy(&mut out, text);
     Contents {
-        count: least(17, text.len()),
+        count: out.len().min(text.len()),
         text: out,
     }
 }
@@ -447,14 +426,11 @@ fn contents_of(text: &[u8]) -> Contents
 pub fn field_contents(number: u32, m: [u8; 161], count: usize) -> Contents
     ensures { result ≡ contents_as (field_text number (take count m)) }
 {
-    let n = least(count, 161);
-    let mut i = 0;
-    while i < 22 {
-        let next = i + 1;
+    let n = count.min(161);
+    for i in 0..22 {
         if number_of(i) == number {
-            return contents_of(span(i, next, &m[..n]));
+            return contents_of(span(i, i + 1, &m[..n]));
         }
-        i = next;
     }
     no_contents()
 }

@@ -12,5 +12,5 @@ unfolding contents_as
 returns c =
     let text : List ℕ = c.args.text.now in
     ap₂ {C = Contents} (λ (n : ℕ) (t : List ℕ). record { count = n; text = t })
-    (c.least.ensures ∙ sym (length-take 17 text))
+    (c.min.ensures ∙ sym (length-take 17 text))
     c.copy.ensures

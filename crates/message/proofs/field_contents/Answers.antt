@@ -31,7 +31,7 @@ pub loop-i-init : goal.loop-i-init
 loop-i-init c = (omega arith, past_start _)
 
 pub slice_bounds-m-end : goal.slice_bounds-m-end
-slice_bounds-m-end c = omega (arith, sized c.before.before.before.before.before, c.least-n.ensures)
+slice_bounds-m-end c = omega (arith, sized c.before.before.before.before.before, c.min-n.ensures)
 
 pub slice_bounds-span-end : goal.slice_bounds-span-end
 slice_bounds-span-end c = sym (length-take-le _ _ (slice_bounds-m-end c.before))
@@ -44,9 +44,9 @@ returns-then-number_of-number c =
     c.contents_of.ensures
     ∙ ap contents_as
     (c.span.ensures
-    ∙ placed c.loop-i.i (take c.least-n.result c.args.m) c.loop-i-test.true
+    ∙ placed c.loop-i.i (take c.min-n.result c.args.m) c.loop-i-test.true
     ∙ ap₂ field_text (sym c.number_of.ensures ∙ c.if-number_of-number.true)
-    (kept c.least-n.result c.args.count c.args.m c.least-n.ensures (sized c.before.before.before.before.before.before.before.before)))
+    (kept c.min-n.result c.args.count c.args.m c.min-n.ensures (sized c.before.before.before.before.before.before.before.before)))
 
 pub loop-i-preserved : goal.loop-i-preserved
 loop-i-preserved c =

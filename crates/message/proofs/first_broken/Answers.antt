@@ -47,14 +47,6 @@ returns-then-not-passes c =
     (sym c.is_exact-exact.ensures))
     (not-true _ c.if-not-passes.true-raw)
 
-pub overflow_add-i-in-loop-i : goal.overflow_add-i-in-loop-i
-overflow_add-i-in-loop-i c =
-    omega (
-      arith,
-      few c.args.k,
-      c.count_of-count.ensures,
-    )
-
 pub loop-i-preserved : goal.loop-i-preserved
 loop-i-preserved c =
     let h : c.loop-i.i < 22 = omega (

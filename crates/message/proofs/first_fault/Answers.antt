@@ -1,10 +1,13 @@
 -- The format decides where it is broken, else the values.
+use Rattle.std.proofs.Common.{rules, ◌≡◌}
+use mathlib.Core.Path.{◌∙◌}
 use Rattle.message.proofs.Tests.{by_format, by_values}
 use Rattle.message.proofs.first_fault.Goals as goal
 
-pub returns-in-Ok : goal.returns-in-Ok
-returns-in-Ok c =
-    by_values _ _ _ _ _ c.first_broken-format.ensures _ c.in-Ok.is c.first_broken.ensures
+pub returns-in_err-first_broken : goal.returns-in_err-first_broken
+returns-in_err-first_broken c =
+    let same : c.from_residual.result ≡ c.first_broken.result = search rules in
+    same ∙ c.in_err-first_broken.was ∙ by_format _ _ _ _ _ c.first_broken.ensures _ _ _ c.in_err-first_broken.was
 
-pub returns-in-Err : goal.returns-in-Err
-returns-in-Err c = by_format _ _ _ _ _ c.first_broken-format.ensures _ _ _ c.in-Err.is
+pub returns : goal.returns
+returns c = by_values _ _ _ _ _ c.first_broken.ensures _ c.in_ok-first_broken.was c.first_broken-2.ensures
