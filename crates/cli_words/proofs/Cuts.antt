@@ -3,12 +3,12 @@
 use mathlib.Core.Path.{◌≡◌, refl, sym, ap, ◌∙◌}
 use mathlib.Core.Bool.{Bool, true, false}
 use mathlib.Core.List.{List, [], ◌∷◌, ◌++◌}
-use Prim.Native.Nat.{ℕ, ◌+◌, ◌-◌, ◌≤◌, ◌<◌}
+use Prim.Native.Nat.{ℕ, ◌+◌, ◌≤◌, ◌<◌}
 use native.Mathlib.Nat.{suc-add, not-suc-le-zero}
 use native.Mathlib.Omega.{arith}
 use borrow.Author.Tests.{eq-eqb}
 use lib.Dec.{eqb}
-use lib.ListN.{length, take, drop, length-append, length-take, length-drop, drop_of_length-le}
+use lib.ListN.{length, take, drop, length-append, drop_of_length-le}
 use mathlib.Core.List.{append_assoc}
 use mathlib.Core.Bool.{cond}
 use Rattle.std.specs.Prelude.{Some, None}
@@ -33,15 +33,6 @@ up_to-take by (x ∷ l) = go (eqb x by) (up_to-take by l)
         → take (length (pick t [] (x ∷ up_to by l))) (x ∷ l) ≡ pick t [] (x ∷ up_to by l)
     go true e = refl
     go false e = ap (◌∷◌ x) e
-
-pub up_to-length : (by : ℕ) (l : List ℕ) → length (up_to by l) ≤ length l
-up_to-length by l = omega (arith, ap length (up_to-take by l), length-take (length (up_to by l)) l)
-
--- where the end of a part is known by its equation: it lies in the text, and what stands up to it is the part
-pub end_in : (by : ℕ) (s : List ℕ) (at r : ℕ) → r ≡ at + length (up_to by (drop at s)) → at ≤ length s → (at ≤ r) × (r ≤ length s)
-end_in by s at r e h =
-    let k : length (up_to by (drop at s)) ≤ length s - at = rw (length-drop at s) at (up_to-length by (drop at s)) in
-    (omega arith, omega arith)
 
 -- ---- all parts
 

@@ -113,14 +113,6 @@ pub fn first_part(s: &[u8], by: u8) -> (&[u8], Option<&[u8]>)
     }
 }
 
-// Where the part that starts at `from` ends: at the next byte `by`, or at the end.
-pub fn part_end(s: &[u8], from: usize, by: u8) -> usize
-    ensures { result ≡ from + length (up_to by (drop from s.now)) }
-{
-    let (part, _) = first_part(&s[from.min(s.len())..], by);
-    from + part.len()
-}
-
 // ---- types
 
 // The bit of a type of one digit.

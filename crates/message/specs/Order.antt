@@ -1,6 +1,6 @@
 -- A list of checks in their order: the first failing one gives the code and names the field (document 01, 'Order of checks').
 -- Assumes nothing.
-use Rattle.std.specs.Prelude.{ℕ, Bool, List, Result, Ok, Err}
+use Rattle.std.specs.Prelude.{ℕ, List, Result, Ok, Err}
 use Rattle.ground.specs.First.{first_that}
 use Rattle.message.specs.declared.About.{About}
 use Rattle.message.specs.declared.Check.{Check}

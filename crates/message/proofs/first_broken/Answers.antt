@@ -1,6 +1,6 @@
 -- The fields passed all hold, so the rest decides.
 use mathlib.Core.Path.{refl, sym}
-use Prim.Native.Nat.{◌<◌, ◌-◌}
+use Prim.Native.Nat.{◌<◌}
 use native.Mathlib.Omega.{arith}
 use borrow.Author.Tests.{not-true, not-false}
 use Rattle.message.proofs.Places.{placed, narrow}
