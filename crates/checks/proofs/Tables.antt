@@ -8,9 +8,11 @@ use Prim.Native.Nat.{ℕ, ◌+◌, ◌≤◌}
 use native.Mathlib.Omega.{arith}
 use borrow.Author.Tests.{eqb-true, eqb-false}
 use lib.Dec.{eqb}
-use lib.ListN.{length, take, replicate, length-append}
+use lib.ListN.{length, take, replicate, length-append, get_or-eq_default}
 use lib.Seq.{take-take, take_at, length-take-le}
-use Rattle.table.specs.Table.{Table, is_unknown}
+use Rattle.customer.specs.declared.Customer.{Customer}
+use Rattle.table.specs.Table.{Table, place_of, nobody, customer_in, is_unknown}
+use Rattle.table.specs.Named.{customer_at, named}
 use Rattle.table.specs.Written.{table_size, holidays_start}
 use Rattle.table.specs.Decode.{table_of, holiday_count}
 use Rattle.table.specs.Stored.{holidays_of}

@@ -55,11 +55,16 @@ fn differs(from: usize, to: usize, a: [u8; 161], b: [u8; 161]) -> bool
 }
 
 // Whether a data type is not among the customer's.
-#[tactic(auto, using(crate::proofs::Faults::type_zero, crate::proofs::Faults::type_read, crate::proofs::Faults::type_none))]
 fn is_type_refused(types: u32, n: u32) -> bool
     ensures { result ≡ fails (type_allowed types n) }
 {
-    !(1..=32).contains(&n) || (types >> (n - 1)) % 2 != 1
+    if n == 0 {
+        return true;
+    }
+    if 32 < n {
+        return true;
+    }
+    (types >> (n - 1)) % 2 != 1
 }
 
 // 1025.
@@ -69,18 +74,22 @@ fn type_faults(types: u32, n: u32) -> Result<(), Fault>
     message::first_failing(&[Check::new(1025, is_type_refused(types, n))])
 }
 
-#[tactic(auto, unfolding(crate::specs::Checks::checksum_differs, ground::specs::Choice::fails))]
 fn checksum_differs(k: Option<u64>, m: [u8; 161]) -> bool
     ensures { result ≡ checksum_differs k m }
 {
-    k.is_none_or(|key| digest::checksum(key, &m) != message::checksum_field(m))
+    match k {
+        None => true,
+        Some(key) => digest::checksum(key, &m) != message::checksum_field(m),
+    }
 }
 
-#[tactic(auto, unfolding(crate::specs::Checks::digest_differs, ground::specs::Choice::fails))]
 fn digest_differs(a: Option<u64>, d: u64) -> bool
     ensures { result ≡ digest_differs a d }
 {
-    a != Some(d)
+    match a {
+        None => true,
+        Some(x) => x != d,
+    }
 }
 
 /// The key, or 0 where there is none.
@@ -91,11 +100,13 @@ pub fn key_or_0(k: Option<u64>) -> u64
 }
 
 // Whether there is no good transport key: none was held at the SUO's end, or its generation is not good for the stamp's date.
-#[tactic(auto, unfolding(crate::specs::Checks::is_missing, ground::specs::Choice::either, ground::specs::Choice::fails))]
 fn is_key_refused(once: Option<u64>, k: KeyPair, generation: u32, date: Date) -> bool
     ensures { result ≡ either (is_missing once) (fails (good_for k generation date)) }
 {
-    once.is_none() || !changeover::is_good_for(k, generation, date)
+    match once {
+        None => true,
+        Some(_) => !changeover::is_good_for(k, generation, date),
+    }
 }
 
 // 1032, 1010, 1011.
@@ -115,11 +126,16 @@ fn is_elsewhere(m: [u8; 161], bank: [u8; 25]) -> bool
 }
 
 // Whether a version is below the floor, or below 120 and not 110.
-#[tactic(auto, unfolding(crate::specs::Checks::too_old_version, ground::specs::Choice::both, ground::specs::Choice::either, ground::specs::Choice::fails))]
 fn too_old_version(floor: u32, version: u32) -> bool
     ensures { result ≡ too_old_version floor version }
 {
-    version < floor || (version < 120 && version != 110)
+    if version < floor {
+        return true;
+    }
+    if 120 <= version {
+        return false;
+    }
+    version != 110
 }
 
 // 1012, 1021, 1033, 1035.
