@@ -54,16 +54,11 @@ fn method_in(bytes: &[u8]) -> [u8; 3]
 // ---- an ESI or a VAR
 
 // Whether the request is a character, and there is room for the message and for what was sent.
+#[tactic(auto, unfolding(ground::specs::Choice::both))]
 fn has_room(request: u32, text: usize, sent: usize) -> bool
     ensures { result ≡ both (is_character request) (both (eqb text 161) (eqb sent sent_size)) }
 {
-    if 256 <= request {
-        return false;
-    }
-    if text != 161 {
-        return false;
-    }
-    sent == 100
+    request < 256 && text == 161 && sent == 100
 }
 
 // The message and what was sent, where the call is served.
@@ -72,15 +67,13 @@ fn put_message(text: &mut [u8], sent: &mut [u8], x: build::BuiltMessage)
     ensures writes { text.new ≡ text_after text.old x }
     ensures keeps { sent.new ≡ sent_after sent.old x }
 {
-    if x.refusal != 0 {
-        return;
+    if x.refusal == 0 {
+        text::copy(text, &x.text);
+        desk_bytes::store_sent(sent, x.sent);
     }
-    let message = x.text;
-    let s = x.sent;
-    text::copy(text, &message);
-    desk_bytes::store_sent(sent, s);
 }
 
+#[tactic(auto, unfolding(ground::specs::Choice::both))]
 fn is_esi_given(
     held: &[u8],
     software: usize,
@@ -92,16 +85,7 @@ fn is_esi_given(
     ensures { result ≡ both (is_held held.now) (both (eqb software 16) (both (eqb stamp 15)
         (both (is_character request) (both (eqb text 161) (eqb sent sent_size))))) }
 {
-    if !desk_bytes::is_held(held) {
-        return false;
-    }
-    if software != 16 {
-        return false;
-    }
-    if stamp != 15 {
-        return false;
-    }
-    has_room(request, text, sent)
+    desk_bytes::is_held(held) && software == 16 && stamp == 15 && has_room(request, text, sent)
 }
 
 #[unsafe(no_mangle)]
@@ -133,14 +117,12 @@ pub extern "C" fn lp_build_esi(
     x.refusal
 }
 
+#[tactic(auto, unfolding(ground::specs::Choice::both))]
 fn is_var_given(batch: &[u8], request: u32, text: usize, sent: usize) -> bool
     ensures { result ≡ both (is_batch batch.now)
         (both (is_character request) (both (eqb text 161) (eqb sent sent_size))) }
 {
-    if build_bytes::is_batch(batch) {
-        return has_room(request, text, sent);
-    }
-    false
+    build_bytes::is_batch(batch) && has_room(request, text, sent)
 }
 
 #[unsafe(no_mangle)]
@@ -160,6 +142,7 @@ pub extern "C" fn lp_build_var(batch: &[u8], request: u32, text: &mut [u8], sent
 
 // ---- a SUO
 
+#[tactic(auto, unfolding(ground::specs::Choice::both))]
 fn is_suo_given(
     held: &[u8],
     maker: usize,
@@ -173,28 +156,14 @@ fn is_suo_given(
     ensures { result ≡ both (is_held held.now) (both (eqb maker 2) (both (eqb software 16) (both (eqb method 3)
         (both (eqb stamp 15) (both (is_character area) (both (eqb text 128) (eqb batch batch_size))))))) }
 {
-    if !desk_bytes::is_held(held) {
-        return false;
-    }
-    if maker != 2 {
-        return false;
-    }
-    if software != 16 {
-        return false;
-    }
-    if method != 3 {
-        return false;
-    }
-    if stamp != 15 {
-        return false;
-    }
-    if 256 <= area {
-        return false;
-    }
-    if text != 128 {
-        return false;
-    }
-    batch == 168
+    desk_bytes::is_held(held)
+        && maker == 2
+        && software == 16
+        && method == 3
+        && stamp == 15
+        && area < 256
+        && text == 128
+        && batch == 168
 }
 
 fn maker_in(maker: &[u64]) -> keys::KeyMaker
@@ -224,13 +193,10 @@ fn put_suo(text: &mut [u8], batch: &mut [u8], built: build::BuiltSuo)
     ensures writes { text.new ≡ suo_text_after text.old built }
     ensures keeps { batch.new ≡ batch_after batch.old built }
 {
-    if built.refusal != 0 {
-        return;
+    if built.refusal == 0 {
+        text::copy(text, &built.batch.suo);
+        build_bytes::store_batch(batch, built.batch);
     }
-    let b = built.batch;
-    let suo = b.suo;
-    text::copy(text, &suo);
-    build_bytes::store_batch(batch, b);
 }
 
 #[unsafe(no_mangle)]
