@@ -2,7 +2,6 @@
 // lent to it.
 ghost use Rattle.std.specs.Prelude.{◌≡◌, eqb, length};
 ghost use Rattle.ground.specs.Choice.{both, pick};
-ghost use Rattle.edge.specs.Edge.{fixed};
 ghost use Rattle.desk_bytes.specs.Layout.{sent_size};
 ghost use Rattle.desk_bytes.specs.Bytes.{is_held};
 ghost use Rattle.build_bytes.specs.Layout.{batch_size};
@@ -11,44 +10,14 @@ ghost use Rattle.desk_edge.specs.Builder.{is_character, text_after, sent_after, 
 ghost use Rattle.desk_edge.specs.Builder.{maker_in, maker_to, given_of, suo_built_by, suo_text_after, batch_after, maker_later};
 ghost use Rattle.desk_edge.specs.Builder.{add_refusal, added_by};
 
+use crate::fixed;
+
 // How many bytes a batch takes.
 #[unsafe(no_mangle)]
 pub extern "C" fn lp_batch_size() -> u32
     ensures { result ≡ 168 }
 {
     168
-}
-
-// ---- texts of a field's length
-
-fn software_in(bytes: &[u8]) -> [u8; 16]
-    ensures { result ≡ fixed 16 bytes.now }
-{
-    let mut out = [0; 16];
-    if bytes.len() == 16 {
-        text::copy(&mut out, bytes);
-    }
-    out
-}
-
-fn stamp_in(bytes: &[u8]) -> [u8; 15]
-    ensures { result ≡ fixed 15 bytes.now }
-{
-    let mut out = [0; 15];
-    if bytes.len() == 15 {
-        text::copy(&mut out, bytes);
-    }
-    out
-}
-
-fn method_in(bytes: &[u8]) -> [u8; 3]
-    ensures { result ≡ fixed 3 bytes.now }
-{
-    let mut out = [0; 3];
-    if bytes.len() == 3 {
-        text::copy(&mut out, bytes);
-    }
-    out
 }
 
 // ---- an ESI or a VAR
@@ -112,7 +81,7 @@ pub extern "C" fn lp_build_esi(
         return 11;
     }
     let h = desk_bytes::load_held(held);
-    let x = build::build_esi(h, software_in(software), stamp_in(stamp), request as u8);
+    let x = build::build_esi(h, fixed(software), fixed(stamp), request as u8);
     put_message(text, sent, x);
     x.refusal
 }
@@ -239,9 +208,9 @@ pub extern "C" fn lp_build_suo(
     let h = desk_bytes::load_held(held);
     let k = maker_in(maker);
     let g = build::Given {
-        software: software_in(software),
-        method: method_in(method),
-        stamp: stamp_in(stamp),
+        software: fixed(software),
+        method: fixed(method),
+        stamp: fixed(stamp),
         area: area as u8,
     };
     let made = build::make_suo(h, k, clock, g);

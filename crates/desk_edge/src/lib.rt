@@ -33,11 +33,11 @@ pub extern "C" fn lp_sent_size() -> u32
 }
 
 // Bytes of another length stand for zeros, which are no name.
-fn name_in(bytes: &[u8]) -> [u8; 25]
-    ensures { result ≡ fixed 25 bytes.now }
+fn fixed<const N: usize>(bytes: &[u8]) -> [u8; N]
+    ensures { result ≡ fixed N bytes.now }
 {
-    let mut out = [0; 25];
-    if bytes.len() == 25 {
+    let mut out = [0; N];
+    if bytes.len() == N {
         text::copy(&mut out, bytes);
     }
     out
@@ -80,7 +80,7 @@ pub extern "C" fn lp_held_open(
         check: check as u64,
         generation: generation_asked(held.len(), generation),
     };
-    let x = desk::open(name_in(own), name_in(bank), p);
+    let x = desk::open(fixed(own), fixed(bank), p);
     put_given(held, x);
     x.refusal
 }
