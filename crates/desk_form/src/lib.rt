@@ -2,7 +2,7 @@
 
 #![tactic(auto)]
 
-ghost use Rattle.std.specs.Prelude.{◌≡◌, List, [], ◌∷◌, ℕ, ◌-◌, ◌<◌, ◌≤◌, min, eqb, length, take, drop, get_or};
+ghost use Rattle.std.specs.Prelude.{◌≡◌, List, [], ◌∷◌, ℕ, ◌-◌, ◌<◌, ◌≤◌, eqb, length, take, drop, get_or};
 ghost use Rattle.ground.specs.Choice.{pick};
 ghost use Rattle.ground.specs.Lists.{all, member, part, same};
 ghost use Rattle.text.specs.Characters.{digit, hex_digit, all_blank};
@@ -14,7 +14,7 @@ ghost use Rattle.desk_form.specs.Replies.{reply_layout, reply_size, awaited, enc
 ghost use Rattle.desk_form.specs.Replies.{reply_format_fails, reply_value_fails, reply_checks};
 
 // The messages that a bank sends back.
-#[derive(Clone, Copy)]
+#[derive(Clone, Copy, Debug, PartialEq, Eq)]
 pub enum Reply {
     Esi,
     Pte,
@@ -66,19 +66,13 @@ fn start_of(i: usize) -> usize
     STARTS[i]
 }
 
-fn least(a: usize, b: usize) -> usize
-    ensures { result ≡ min a b }
-{
-    if a <= b { a } else { b }
-}
-
 // The characters of the fields from one place of the order to before another, as far as the reply goes.
 fn span(from: usize, to: usize, r: &[u8]) -> &[u8]
     requires { (from ≤ to) × (to ≤ 25) }
     ensures { result.now ≡ part (total (take from fields)) (total (take to fields) - total (take from fields)) r.now }
 {
-    let a = least(start_of(from), r.len());
-    let e = least(start_of(to), r.len());
+    let a = start_of(from).min(r.len());
+    let e = start_of(to).min(r.len());
     &r[a..e]
 }
 
@@ -86,7 +80,7 @@ fn span(from: usize, to: usize, r: &[u8]) -> &[u8]
 fn is_blank_over(k: Reply, r: &[u8]) -> bool
     ensures { result ≡ all_blank (drop (reply_size k) r.now) }
 {
-    let n = least(size_of(k), r.len());
+    let n = size_of(k).min(r.len());
     text::all_blank(&r[n..])
 }
 
@@ -98,10 +92,11 @@ pub fn encloses_key(r: &[u8]) -> bool
 }
 
 // A test that is made only of some fields.
+#[tactic(auto, unfolding(ground::specs::Choice::either, ground::specs::Choice::fails))]
 fn only_if(asked: bool, holds: bool) -> bool
     ensures { result ≡ only asked holds }
 {
-    if asked { holds } else { true }
+    !asked || holds
 }
 
 // Field 1 is the awaited identifier.
@@ -143,29 +138,22 @@ fn hex_holds(k: Reply, enclosed: bool, number: u32, text: &[u8]) -> bool
     }
 }
 
+#[tactic(auto, unfolding(message::specs::Rules::format_holds, ground::specs::Choice::both))]
 fn format_holds(k: Reply, enclosed: bool, blank_over: bool, number: u32, text: &[u8]) -> bool
     ensures { result ≡ format_holds (reply_form k enclosed) blank_over number text.now }
 {
-    if !only_if(number / 10 <= 16, text::all_field_characters(text)) {
-        return false;
-    }
-    if !digits_hold(number / 10, text) {
-        return false;
-    }
-    if !hex_holds(k, enclosed, number, text) {
-        return false;
-    }
-    only_if(number == 20, blank_over)
+    only_if(number / 10 <= 16, text::all_field_characters(text))
+        && digits_hold(number / 10, text)
+        && hex_holds(k, enclosed, number, text)
+        && only_if(number == 20, blank_over)
 }
 
 // One of two texts.
+#[tactic(auto, unfolding(message::specs::Rules::one_of, ground::specs::Choice::either))]
 fn one_of(a: &[u8], b: &[u8], text: &[u8]) -> bool
     ensures { result ≡ one_of (a.now ∷ b.now ∷ []) text.now }
 {
-    if text::same_bytes(a, text) {
-        return true;
-    }
-    text::same_bytes(b, text)
+    text::same_bytes(a, text) || text::same_bytes(b, text)
 }
 
 // The rules that both replies have, of one that encloses a key or not.
@@ -277,9 +265,6 @@ pub fn fault_of(k: Reply, r: &[u8]) -> Result<(), message::Fault>
             about: message::About::Answered,
         });
     }
-    let format = first_broken(false, 3010, k, r);
-    match format {
-        Ok(()) => first_broken(true, 3011, k, r),
-        Err(fault) => Err(fault),
-    }
+    first_broken(false, 3010, k, r)?;
+    first_broken(true, 3011, k, r)
 }
