@@ -3,7 +3,7 @@
 #![tactic(auto)]
 
 ghost use Rattle.std.specs.Prelude.{◌≡◌, List, [], ◌∷◌, ℕ, ◌-◌, ◌<◌, ◌≤◌, eqb, length, take, drop, get_or};
-ghost use Rattle.ground.specs.Choice.{pick};
+ghost use Rattle.ground.specs.Choice.{both};
 ghost use Rattle.ground.specs.Lists.{all, member, part, same};
 ghost use Rattle.text.specs.Characters.{digit, hex_digit, all_blank};
 ghost use Rattle.message.specs.Layout.{laid, no_field, fields, total, width_in, field_text};
@@ -11,13 +11,20 @@ ghost use Rattle.message.specs.Order.{first_failing};
 ghost use Rattle.message.specs.Rules.{only, one_of, format_holds, obeys, value_holds, each_field};
 ghost use Rattle.message.specs.declared.About.TheVariants.{Answered};
 ghost use Rattle.desk_form.specs.Replies.{reply_layout, reply_size, awaited, encloses, reply_hexes, both_rules, each_rules, reply_form};
-ghost use Rattle.desk_form.specs.Replies.{reply_format_fails, reply_value_fails, reply_checks};
+ghost use Rattle.desk_form.specs.Replies.{fails_in, reply_checks};
 
 // The messages that a bank sends back.
 #[derive(Clone, Copy, Debug, PartialEq, Eq)]
 pub enum Reply {
     Esi,
     Pte,
+}
+
+// What a field is tested for.
+#[derive(Clone, Copy, Debug, PartialEq, Eq)]
+enum Test {
+    Format,
+    Value,
 }
 
 // The fields' numbers, in their order.
@@ -209,9 +216,18 @@ fn value_holds(k: Reply, enclosed: bool, number: u32, text: &[u8]) -> bool
     each_holds(k, number, text)
 }
 
-// Whether a field fails the test of the values or that of the format.
+// The format, with the awaited identifier.
+#[tactic(auto, unfolding(ground::specs::Choice::both))]
+fn is_formed(k: Reply, enclosed: bool, blank_over: bool, number: u32, text: &[u8]) -> bool
+    ensures { result ≡ both (only (eqb number 10) (same (awaited k) text.now))
+        (format_holds (reply_form k enclosed) blank_over number text.now) }
+{
+    is_awaited(k, number, text) && format_holds(k, enclosed, blank_over, number, text)
+}
+
+// Whether a field fails the test.
 fn is_broken(
-    values: bool,
+    test: Test,
     k: Reply,
     enclosed: bool,
     blank_over: bool,
@@ -220,21 +236,17 @@ fn is_broken(
 ) -> bool
     requires { length text.now ≤ width_in number fields }
     ensures { (r : List ℕ) → field_text number r ≡ text.now → encloses r ≡ «enclosed»
-        → all_blank (drop (reply_size k) r) ≡ blank_over → result ≡ pick values (reply_value_fails k r) (reply_format_fails k r) number }
+        → all_blank (drop (reply_size k) r) ≡ blank_over → result ≡ fails_in test k r number }
 {
-    if values {
-        return !value_holds(k, enclosed, number, text);
+    match test {
+        Test::Format => !is_formed(k, enclosed, blank_over, number, text),
+        Test::Value => !value_holds(k, enclosed, number, text),
     }
-    if !is_awaited(k, number, text) {
-        return true;
-    }
-    !format_holds(k, enclosed, blank_over, number, text)
 }
 
 // The lowest field that is broken.
-fn first_broken(values: bool, code: u32, k: Reply, r: &[u8]) -> Result<(), message::Fault>
-    ensures { result ≡ first_failing (each_field code Answered
-        (pick values (reply_value_fails k r.now) (reply_format_fails k r.now)) (reply_layout k)) }
+fn first_broken(test: Test, code: u32, k: Reply, r: &[u8]) -> Result<(), message::Fault>
+    ensures { result ≡ first_failing (each_field code Answered (fails_in test k r.now) (reply_layout k)) }
 {
     let count = count_of(k);
     let enclosed = encloses_key(r);
@@ -242,7 +254,7 @@ fn first_broken(values: bool, code: u32, k: Reply, r: &[u8]) -> Result<(), messa
     let mut i = 0;
     while i < count {
         let number = number_of(i);
-        if is_broken(values, k, enclosed, blank_over, number, span(i, i + 1, r)) {
+        if is_broken(test, k, enclosed, blank_over, number, span(i, i + 1, r)) {
             return Err(message::Fault {
                 code,
                 field: number,
@@ -265,6 +277,6 @@ pub fn fault_of(k: Reply, r: &[u8]) -> Result<(), message::Fault>
             about: message::About::Answered,
         });
     }
-    first_broken(false, 3010, k, r)?;
-    first_broken(true, 3011, k, r)
+    first_broken(Test::Format, 3010, k, r)?;
+    first_broken(Test::Value, 3011, k, r)
 }
