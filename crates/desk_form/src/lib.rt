@@ -251,8 +251,7 @@ fn first_broken(test: Test, code: u32, k: Reply, r: &[u8]) -> Result<(), message
     let count = count_of(k);
     let enclosed = encloses_key(r);
     let blank_over = is_blank_over(k, r);
-    let mut i = 0;
-    while i < count {
+    for i in 0..count {
         let number = number_of(i);
         if is_broken(test, k, enclosed, blank_over, number, span(i, i + 1, r)) {
             return Err(message::Fault {
@@ -261,7 +260,6 @@ fn first_broken(test: Test, code: u32, k: Reply, r: &[u8]) -> Result<(), message
                 about: message::About::Answered,
             });
         }
-        i += 1;
     }
     Ok(())
 }

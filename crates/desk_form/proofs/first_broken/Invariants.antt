@@ -1,5 +1,5 @@
 use mathlib.Core.Path.{◌≡◌}
-use Prim.Native.Nat.{◌≤◌, ◌-◌}
+use Prim.Native.Nat.{◌≤◌}
 use lib.ListN.{drop}
 use Rattle.message.specs.declared.About.TheVariants.{Answered}
 use Rattle.desk_form.specs.Replies.{reply_layout, fails_in}
@@ -11,6 +11,3 @@ invariant-loop-i l =
     (l.i ≤ l.count)
     × (lowest (fails_in l.test l.k l.r) l.code Answered (reply_layout l.k)
     ≡ lowest (fails_in l.test l.k l.r) l.code Answered (drop l.i (reply_layout l.k)))
-
-abbrev pub decreases-loop-i : goal.decreases-loop-i
-decreases-loop-i l = l.count - l.i
