@@ -12,14 +12,17 @@ ghost use Rattle.digest.specs.Running.{alike, took_bytes, ended, answered};
 ghost use Rattle.message.specs.declared.Kind.TheVariants.{Suo};
 ghost use Rattle.verdict.specs.Outcomes.{is_sound};
 ghost use Rattle.refusals.specs.Refusals.{refusal, lowest};
+ghost use Rattle.refusals.specs.Numbers.{code_of};
 ghost use Rattle.whole_file.specs.Messages.{known_text};
 ghost use Rattle.reply.specs.Reply.{joined};
 ghost use Rattle.build.specs.Messages.{tag_of, size_of, opening_fields, middle_fields, var_front, esi_built, suo_built, var_built};
 ghost use Rattle.build.specs.Building.{breaks_rules, other_generation, message_by, no_batch, esi_building};
 ghost use Rattle.build.specs.Building.{suo_building, maker_after, record_added, digest_number, var_building};
 
+use refusals::Refusal;
+
 // What a SUO is given beside the desk.
-#[derive(Drop)]
+#[derive(Clone, Copy, Debug, PartialEq, Eq)]
 pub struct Given {
     pub software: [u8; 16],
     pub method: [u8; 3],
@@ -28,7 +31,7 @@ pub struct Given {
 }
 
 // A batch on its way: its SUO, the one-time key, the working key of that moment, and the digest of its records so far.
-#[derive(Clone, Copy)]
+#[derive(Clone, Copy, Debug, PartialEq, Eq)]
 pub struct Batch {
     pub suo: [u8; 128],
     pub once: u64,
@@ -37,7 +40,7 @@ pub struct Batch {
 }
 
 // An ESI or a VAR, and what was sent by it; zeros where the call was refused.
-#[derive(Clone, Copy)]
+#[derive(Clone, Copy, Debug, PartialEq, Eq)]
 pub struct BuiltMessage {
     pub refusal: u32,
     pub text: [u8; 161],
@@ -45,14 +48,14 @@ pub struct BuiltMessage {
 }
 
 // A SUO stands in its batch.
-#[derive(Clone, Copy)]
+#[derive(Clone, Copy, Debug, PartialEq, Eq)]
 pub struct BuiltSuo {
     pub refusal: u32,
     pub batch: Batch,
 }
 
 // A SUO, and the key maker after it.
-#[derive(Drop)]
+#[derive(Clone, Copy, Debug, PartialEq, Eq)]
 pub struct MadeSuo {
     pub built: BuiltSuo,
     pub maker: keys::KeyMaker,
@@ -95,20 +98,15 @@ fn put_middle(out: &mut [u8], h: desk::Held, stamp: [u8; 15], area: u8)
     requires { 112 ≤ length out.old }
     ensures { out.new ≡ splice 35 (joined (middle_fields h stamp area)) out.old }
 {
-    let bank = h.bank;
-    let own = h.own;
-    let transport = h.transport;
-    let working = h.working;
     let marks = [
-        low_digit(transport.generation),
-        low_digit(working.generation),
+        low_digit(h.transport.generation),
+        low_digit(h.working.generation),
     ];
-    let areas = [area];
-    codec::write_bytes(out, 35, &bank);
-    codec::write_bytes(out, 60, &own);
+    codec::write_bytes(out, 35, &h.bank);
+    codec::write_bytes(out, 60, &h.own);
     codec::write_bytes(out, 85, &marks);
     codec::write_bytes(out, 87, &stamp);
-    codec::write_bytes(out, 102, &areas);
+    codec::write_bytes(out, 102, &[area]);
     codec::write_bytes(out, 103, b"         ");
 }
 
@@ -119,9 +117,8 @@ fn put_closing(out: &mut [u8], working: u64, request: u8)
         out.old }
 {
     let sum = text::hex_digits(digest::checksum(working, out));
-    let requests = [request];
     codec::write_bytes(out, 144, &sum);
-    codec::write_bytes(out, 160, &requests);
+    codec::write_bytes(out, 160, &[request]);
 }
 
 // ---- the messages
@@ -130,12 +127,11 @@ fn put_closing(out: &mut [u8], working: u64, request: u8)
 fn esi_text(h: desk::Held, software: [u8; 16], stamp: [u8; 15], request: u8) -> [u8; 161]
     ensures { result ≡ esi_built h software stamp request }
 {
-    let working = h.working;
     let mut out = [0u8; 161];
     put_opening(&mut out, message::Kind::Esi, software, *b"SMH");
     put_middle(&mut out, h, stamp, 0x20);
     codec::write_bytes(&mut out, 112, b"                                ");
-    put_closing(&mut out, working.key, request);
+    put_closing(&mut out, h.working.key, request);
     out
 }
 
@@ -143,15 +139,11 @@ fn esi_text(h: desk::Held, software: [u8; 16], stamp: [u8; 15], request: u8) -> 
 fn suo_text(h: desk::Held, g: Given, once: u64) -> [u8; 128]
     ensures { result ≡ suo_built h g.software g.method g.stamp g.area once }
 {
-    let software = g.software;
-    let method = g.method;
-    let stamp = g.stamp;
-    let transport = h.transport;
-    let cipher = des::encipher(transport.key, once);
+    let cipher = des::encipher(h.transport.key, once);
     let sealed = text::hex_digits(cipher);
     let mut out = [0u8; 128];
-    put_opening(&mut out, message::Kind::Suo, software, method);
-    put_middle(&mut out, h, stamp, g.area);
+    put_opening(&mut out, message::Kind::Suo, g.software, g.method);
+    put_middle(&mut out, h, g.stamp, g.area);
     codec::write_bytes(&mut out, 112, &sealed);
     out
 }
@@ -190,13 +182,11 @@ fn known_suo(suo: [u8; 128]) -> [u8; 161]
 
 // ---- refusals
 
+#[tactic(auto, unfolding(ground::specs::Choice::fails, verdict::specs::Outcomes::is_sound))]
 fn is_fault(f: Result<(), message::Fault>) -> bool
     ensures { result ≡ fails (is_sound f) }
 {
-    match f {
-        Ok(()) => false,
-        Err(_) => true,
-    }
+    f.is_err()
 }
 
 // Whether the base finds a fault of the form in a message, by its known fields.
@@ -220,55 +210,48 @@ pub fn suo_breaks_rules(suo: [u8; 128]) -> bool
 }
 
 // Whether a generation is above 9, so that it is none.
+#[tactic(auto, unfolding(crate::specs::Building::other_generation, ground::specs::Choice::either))]
 fn other_generation(h: desk::Held) -> bool
     ensures { result ≡ other_generation h }
 {
-    let transport = h.transport;
-    let working = h.working;
-    if 9 < transport.generation {
-        return true;
-    }
-    9 < working.generation
+    9 < h.transport.generation || 9 < h.working.generation
 }
 
-// The number of the refusal: 13, or 0 for none.
-fn rules_refusal(broken: bool) -> u32
-    ensures { result ≡ lowest (refusal 13 broken ∷ []) }
+// Why a VAR can't be built, if it can't.
+fn rules_refusal(broken: bool) -> Result<(), Refusal>
+    ensures { code_of result ≡ lowest (refusal 13 broken ∷ []) }
 {
-    if broken {
-        return 13;
-    }
-    0
+    refusals::first_of(&[(broken, Refusal::OtherForm)])
 }
 
-// The same with 11 before it.
-fn building_refusal(h: desk::Held, broken: bool) -> u32
-    ensures { result ≡ lowest (refusal 11 (other_generation h) ∷ refusal 13 broken ∷ []) }
+// Why an ESI or a SUO can't be built, if it can't.
+fn building_refusal(h: desk::Held, broken: bool) -> Result<(), Refusal>
+    ensures { code_of result ≡ lowest (refusal 11 (other_generation h) ∷ refusal 13 broken ∷ []) }
 {
-    if other_generation(h) {
-        return 11;
-    }
-    rules_refusal(broken)
+    refusals::first_of(&[
+        (other_generation(h), Refusal::OutOfLimits),
+        (broken, Refusal::OtherForm),
+    ])
 }
 
 // ---- an ESI
 
 // What a call hands back: where it refuses, zeros. Bytes of no length say that nothing was sent.
-fn message_by(refusal: u32, text: [u8; 161], sent: desk::Sent) -> BuiltMessage
-    ensures { result ≡ message_by refusal text sent }
+fn message_by(outcome: Result<(), Refusal>, text: [u8; 161], sent: desk::Sent) -> BuiltMessage
+    ensures { result ≡ message_by (code_of outcome) text sent }
 {
-    if refusal != 0 {
-        let none = desk_bytes::load_sent(b"");
-        return BuiltMessage {
+    let refusal = refusals::code(outcome);
+    match outcome {
+        Ok(()) => BuiltMessage {
             refusal,
-            text: [0u8; 161],
-            sent: none,
-        };
-    }
-    BuiltMessage {
-        refusal,
-        text,
-        sent,
+            text,
+            sent,
+        },
+        Err(_) => BuiltMessage {
+            refusal,
+            text: [0; 161],
+            sent: desk_bytes::load_sent(b""),
+        },
     }
 }
 
@@ -277,9 +260,9 @@ pub fn build_esi(h: desk::Held, software: [u8; 16], stamp: [u8; 15], request: u8
     ensures { result ≡ esi_building h software stamp request }
 {
     let text = esi_text(h, software, stamp, request);
-    let refusal = building_refusal(h, breaks_rules(message::Kind::Esi, text));
+    let outcome = building_refusal(h, breaks_rules(message::Kind::Esi, text));
     let sent = desk::sent_by(text, text);
-    message_by(refusal, text, sent)
+    message_by(outcome, text, sent)
 }
 
 // ---- a SUO
@@ -288,12 +271,11 @@ pub fn build_esi(h: desk::Held, software: [u8; 16], stamp: [u8; 15], request: u8
 pub fn no_batch() -> Batch
     ensures { result ≡ no_batch }
 {
-    let state = digest::start();
     Batch {
-        suo: [0u8; 128],
+        suo: [0; 128],
         once: 0,
         working: 0,
-        state,
+        state: digest::start(),
     }
 }
 
@@ -302,28 +284,28 @@ pub fn make_suo(h: desk::Held, maker: keys::KeyMaker, clock: u64, g: Given) -> M
     ensures { result ≡ record { built = suo_building h maker clock g; maker = maker_after h maker clock g } }
 {
     let made = keys::make(maker, clock);
-    let moved = made.maker;
     let once = made.made;
     let suo = suo_text(h, g, once);
-    let refusal = building_refusal(h, suo_breaks_rules(suo));
-    if refusal != 0 {
-        let batch = no_batch();
-        let built = BuiltSuo { refusal, batch };
-        return MadeSuo { built, maker };
-    }
-    let keys = h.working;
-    let working = keys.key;
-    let state = digest::start();
-    let batch = Batch {
-        suo,
-        once,
-        working,
-        state,
-    };
-    let built = BuiltSuo { refusal, batch };
-    MadeSuo {
-        built,
-        maker: moved,
+    let outcome = building_refusal(h, suo_breaks_rules(suo));
+    let refusal = refusals::code(outcome);
+    match outcome {
+        Ok(()) => {
+            let batch = Batch {
+                suo,
+                once,
+                working: h.working.key,
+                state: digest::start(),
+            };
+            MadeSuo {
+                built: BuiltSuo { refusal, batch },
+                maker: made.maker,
+            }
+        }
+        Err(_) => {
+            let batch = no_batch();
+            let built = BuiltSuo { refusal, batch };
+            MadeSuo { built, maker }
+        }
     }
 }
 
@@ -358,29 +340,19 @@ fn digest_with(
 pub fn add_record(b: Batch, characters: &[u8]) -> Batch
     ensures { result ≡ record_added b characters.now }
 {
-    let suo = b.suo;
-    let once = b.once;
-    let working = b.working;
-    let before = b.state;
-    let state = digest_with(once, message::method(known_suo(suo)), before, characters);
-    Batch {
-        suo,
-        once,
-        working,
-        state,
-    }
+    let method = message::method(known_suo(b.suo));
+    let state = digest_with(b.once, method, b.state, characters);
+    Batch { state, ..b }
 }
 
 // ---- a VAR
 
 // Without any character left it is zeros.
+#[tactic(auto, unfolding(crate::specs::Building::digest_number))]
 fn digest_number(a: Option<u64>) -> u64
     ensures { result ≡ digest_number a }
 {
-    match a {
-        None => 0,
-        Some(x) => x,
-    }
+    a.unwrap_or(0)
 }
 
 // The digest under the one-time key.
@@ -396,12 +368,9 @@ fn batch_digest(once: u64, state: digest::State) -> u64
 pub fn build_var(b: Batch, request: u8) -> BuiltMessage
     ensures { result ≡ var_building b request }
 {
-    let suo = b.suo;
-    let once = b.once;
-    let working = b.working;
-    let state = b.state;
-    let text = var_text(suo, working, batch_digest(once, state), request);
-    let refusal = rules_refusal(breaks_rules(message::Kind::Var, text));
-    let sent = desk::sent_by(known_suo(suo), text);
-    message_by(refusal, text, sent)
+    let digest = batch_digest(b.once, b.state);
+    let text = var_text(b.suo, b.working, digest, request);
+    let outcome = rules_refusal(breaks_rules(message::Kind::Var, text));
+    let sent = desk::sent_by(known_suo(b.suo), text);
+    message_by(outcome, text, sent)
 }

@@ -16,10 +16,11 @@ fn state_in(b: &[u8]) -> digest::State
     requires { length b.now ≡ batch_size }
     ensures { result ≡ state_from (dec state_shape 144 b.now) }
 {
-    let chain = codec::read8(b, 144);
-    let block = codec::read8(b, 152);
-    let n = codec::read8(b, 160);
-    digest::State { chain, block, n }
+    digest::State {
+        chain: codec::read8(b, 144),
+        block: codec::read8(b, 152),
+        n: codec::read8(b, 160),
+    }
 }
 
 fn batch_in(b: &[u8]) -> build::Batch
@@ -28,50 +29,43 @@ fn batch_in(b: &[u8]) -> build::Batch
 {
     let mut suo = [0u8; 128];
     codec::read_bytes(&mut suo, b, 0);
-    let once = codec::read8(b, 128);
-    let working = codec::read8(b, 136);
-    let state = state_in(b);
     build::Batch {
         suo,
-        once,
-        working,
-        state,
+        once: codec::read8(b, 128),
+        working: codec::read8(b, 136),
+        state: state_in(b),
     }
 }
 
 // ---- soundness
 
+#[tactic(auto, unfolding(crate::specs::Bytes::sound_batch, ground::specs::Choice::both, ground::specs::Choice::fails))]
 fn is_sound(x: build::Batch) -> bool
     ensures { result ≡ sound_batch x }
 {
-    let suo = x.suo;
-    if build::suo_breaks_rules(suo) {
-        return false;
-    }
-    if !keys::has_odd_parity(x.once) {
-        return false;
-    }
-    keys::has_odd_parity(x.working)
+    !build::suo_breaks_rules(x.suo)
+        && keys::has_odd_parity(x.once)
+        && keys::has_odd_parity(x.working)
 }
 
 // Whether bytes are a batch's.
+#[tactic(auto, unfolding(crate::specs::Bytes::is_batch, ground::specs::Choice::both))]
 pub fn is_batch(b: &[u8]) -> bool
     ensures { result ≡ is_batch b.now }
 {
-    if b.len() != SIZE {
-        return false;
-    }
-    is_sound(batch_in(b))
+    b.len() == SIZE && is_sound(batch_in(b))
 }
 
 // The batch that bytes say; bytes that are none say no batch.
+#[tactic(auto, unfolding(crate::specs::Bytes::batch_in, ground::specs::Choice::pick))]
 pub fn load_batch(b: &[u8]) -> build::Batch
     ensures { result ≡ batch_in b.now }
 {
-    if !is_batch(b) {
-        return build::no_batch();
+    if is_batch(b) {
+        batch_in(b)
+    } else {
+        build::no_batch()
     }
-    batch_in(b)
 }
 
 // ---- writing
@@ -80,18 +74,17 @@ fn put_batch(b: &mut [u8], x: build::Batch)
     requires { length b.old ≡ batch_size }
     ensures { b.new ≡ batch_bytes x }
 {
-    let state = x.state;
-    let numbers = [x.once, x.working, state.chain, state.block, state.n];
+    let numbers = [x.once, x.working, x.state.chain, x.state.block, x.state.n];
     codec::write_bytes(b, 0, &x.suo);
     codec::write_row(b, 128, &[8, 8, 8, 8, 8], &numbers);
 }
 
 // Writes a batch over bytes of its length; others stay.
+#[tactic(auto, unfolding(crate::specs::Bytes::batch_stored, ground::specs::Choice::pick))]
 pub fn store_batch(b: &mut [u8], x: build::Batch)
     ensures { b.new ≡ batch_stored b.old x }
 {
-    if b.len() != SIZE {
-        return;
+    if b.len() == SIZE {
+        put_batch(b, x);
     }
-    put_batch(b, x);
 }

@@ -56,13 +56,11 @@ fn held_in(b: &[u8]) -> desk::Held
     let mut bank = [0u8; 25];
     codec::read_bytes(&mut own, b, 0);
     codec::read_bytes(&mut bank, b, 25);
-    let transport = keys_in(b, 50);
-    let working = keys_in(b, 69);
     desk::Held {
         own,
         bank,
-        transport,
-        working,
+        transport: keys_in(b, 50),
+        working: keys_in(b, 69),
     }
 }
 
@@ -80,53 +78,32 @@ fn is_exact_before(b: &[u8], at: usize) -> bool
     codec::same_at(&zeros, b, at)
 }
 
+#[tactic(auto, unfolding(crate::specs::Bytes::sound_before, ground::specs::Choice::both))]
 fn is_sound_before(current: u32, k: Option<desk::Numbered>) -> bool
     ensures { result ≡ sound_before current k }
 {
-    match k {
-        None => true,
-        Some(n) => {
-            if 9 < n.generation {
-                return false;
-            }
-            if keys::next_generation(n.generation) != current {
-                return false;
-            }
-            keys::has_odd_parity(n.key)
-        }
-    }
+    k.is_none_or(|n| {
+        n.generation <= 9
+            && keys::next_generation(n.generation) == current
+            && keys::has_odd_parity(n.key)
+    })
 }
 
+#[tactic(auto, unfolding(crate::specs::Bytes::sound_keys, ground::specs::Choice::both))]
 fn is_sound_keys(k: desk::Keys) -> bool
     ensures { result ≡ sound_keys k }
 {
-    if 9 < k.generation {
-        return false;
-    }
-    if !keys::has_odd_parity(k.key) {
-        return false;
-    }
-    let before = k.before;
-    is_sound_before(k.generation, before)
+    k.generation <= 9 && keys::has_odd_parity(k.key) && is_sound_before(k.generation, k.before)
 }
 
+#[tactic(auto, unfolding(crate::specs::Bytes::sound_held, ground::specs::Choice::both))]
 fn is_sound_held(h: desk::Held) -> bool
     ensures { result ≡ sound_held h }
 {
-    let own = h.own;
-    if !customer::is_sound_who(&own) {
-        return false;
-    }
-    let bank = h.bank;
-    if !customer::is_sound_who(&bank) {
-        return false;
-    }
-    let transport = h.transport;
-    if !is_sound_keys(transport) {
-        return false;
-    }
-    let working = h.working;
-    is_sound_keys(working)
+    customer::is_sound_who(&h.own)
+        && customer::is_sound_who(&h.bank)
+        && is_sound_keys(h.transport)
+        && is_sound_keys(h.working)
 }
 
 // Whether bytes are a desk's.
@@ -146,13 +123,15 @@ pub fn is_held(b: &[u8]) -> bool
 }
 
 // The desk that bytes say; bytes that are none say no desk.
+#[tactic(auto, unfolding(crate::specs::Bytes::held_in, ground::specs::Choice::pick))]
 pub fn load_held(b: &[u8]) -> desk::Held
     ensures { result ≡ held_in b.now }
 {
-    if !is_held(b) {
-        return desk::no_desk();
+    if is_held(b) {
+        held_in(b)
+    } else {
+        desk::no_desk()
     }
-    held_in(b)
 }
 
 // ---- writing
@@ -161,11 +140,10 @@ pub fn load_held(b: &[u8]) -> desk::Held
 fn keys_row(k: desk::Keys) -> [u64; 5]
     ensures { result ≡ cells keys_shape (keys_to k) }
 {
-    let before = k.before;
-    let Some(n) = before else {
-        return [k.generation as u64, k.key, 0, 0, 0];
-    };
-    [k.generation as u64, k.key, 1, n.generation as u64, n.key]
+    match k.before {
+        None => [k.generation as u64, k.key, 0, 0, 0],
+        Some(n) => [k.generation as u64, k.key, 1, n.generation as u64, n.key],
+    }
 }
 
 fn put_held(b: &mut [u8], h: desk::Held)
@@ -181,13 +159,13 @@ fn put_held(b: &mut [u8], h: desk::Held)
 }
 
 // Writes a desk over bytes of its length; others stay.
+#[tactic(auto, unfolding(crate::specs::Bytes::held_stored, ground::specs::Choice::pick))]
 pub fn store_held(b: &mut [u8], h: desk::Held)
     ensures { b.new ≡ held_stored b.old h }
 {
-    if b.len() != HELD {
-        return;
+    if b.len() == HELD {
+        put_held(b, h);
     }
-    put_held(b, h);
 }
 
 // ---- what was sent
@@ -223,25 +201,27 @@ fn nothing_sent() -> desk::Sent
     ensures { result ≡ nothing_sent }
 {
     desk::Sent {
-        receiver: [0u8; 25],
-        sender: [0u8; 25],
+        receiver: [0; 25],
+        sender: [0; 25],
         transport: 0,
         working: 0,
-        stamp: [0u8; 15],
+        stamp: [0; 15],
         area: 0,
-        once: [0u8; 16],
-        digest: [0u8; 16],
+        once: [0; 16],
+        digest: [0; 16],
     }
 }
 
 // What was sent, as bytes say it.
+#[tactic(auto, unfolding(crate::specs::Bytes::sent_in, ground::specs::Choice::pick))]
 pub fn load_sent(b: &[u8]) -> desk::Sent
     ensures { result ≡ sent_in b.now }
 {
-    if b.len() != SENT {
-        return nothing_sent();
+    if b.len() == SENT {
+        sent_in(b)
+    } else {
+        nothing_sent()
     }
-    sent_in(b)
 }
 
 fn put_names(b: &mut [u8], s: desk::Sent)
@@ -275,11 +255,11 @@ fn put_sent(b: &mut [u8], s: desk::Sent)
 }
 
 // Writes what was sent over bytes of its length; others stay.
+#[tactic(auto, unfolding(crate::specs::Bytes::sent_stored, ground::specs::Choice::pick))]
 pub fn store_sent(b: &mut [u8], s: desk::Sent)
     ensures { b.new ≡ sent_stored b.old s }
 {
-    if b.len() != SENT {
-        return;
+    if b.len() == SENT {
+        put_sent(b, s);
     }
-    put_sent(b, s);
 }

@@ -2,7 +2,6 @@
 // lent to it.
 ghost use Rattle.std.specs.Prelude.{◌≡◌, eqb, length};
 ghost use Rattle.ground.specs.Choice.{both, pick};
-ghost use Rattle.edge.specs.Edge.{fixed};
 ghost use Rattle.desk_bytes.specs.Layout.{sent_size};
 ghost use Rattle.desk_bytes.specs.Bytes.{is_held};
 ghost use Rattle.build_bytes.specs.Layout.{batch_size};
@@ -10,6 +9,8 @@ ghost use Rattle.build_bytes.specs.Bytes.{is_batch};
 ghost use Rattle.desk_edge.specs.Builder.{is_character, text_after, sent_after, MeetsBuilding, esi_built_by, var_built_by};
 ghost use Rattle.desk_edge.specs.Builder.{maker_in, maker_to, given_of, suo_built_by, suo_text_after, batch_after, maker_later};
 ghost use Rattle.desk_edge.specs.Builder.{add_refusal, added_by};
+
+use crate::fixed;
 
 // How many bytes a batch takes.
 #[unsafe(no_mangle)]
@@ -19,51 +20,14 @@ pub extern "C" fn lp_batch_size() -> u32
     168
 }
 
-// ---- texts of a field's length
-
-fn software_in(bytes: &[u8]) -> [u8; 16]
-    ensures { result ≡ fixed 16 bytes.now }
-{
-    let mut out = [0; 16];
-    if bytes.len() == 16 {
-        text::copy(&mut out, bytes);
-    }
-    out
-}
-
-fn stamp_in(bytes: &[u8]) -> [u8; 15]
-    ensures { result ≡ fixed 15 bytes.now }
-{
-    let mut out = [0; 15];
-    if bytes.len() == 15 {
-        text::copy(&mut out, bytes);
-    }
-    out
-}
-
-fn method_in(bytes: &[u8]) -> [u8; 3]
-    ensures { result ≡ fixed 3 bytes.now }
-{
-    let mut out = [0; 3];
-    if bytes.len() == 3 {
-        text::copy(&mut out, bytes);
-    }
-    out
-}
-
 // ---- an ESI or a VAR
 
 // Whether the request is a character, and there is room for the message and for what was sent.
+#[tactic(auto, unfolding(ground::specs::Choice::both))]
 fn has_room(request: u32, text: usize, sent: usize) -> bool
     ensures { result ≡ both (is_character request) (both (eqb text 161) (eqb sent sent_size)) }
 {
-    if 256 <= request {
-        return false;
-    }
-    if text != 161 {
-        return false;
-    }
-    sent == 100
+    request < 256 && text == 161 && sent == 100
 }
 
 // The message and what was sent, where the call is served.
@@ -72,15 +36,13 @@ fn put_message(text: &mut [u8], sent: &mut [u8], x: build::BuiltMessage)
     ensures writes { text.new ≡ text_after text.old x }
     ensures keeps { sent.new ≡ sent_after sent.old x }
 {
-    if x.refusal != 0 {
-        return;
+    if x.refusal == 0 {
+        text::copy(text, &x.text);
+        desk_bytes::store_sent(sent, x.sent);
     }
-    let message = x.text;
-    let s = x.sent;
-    text::copy(text, &message);
-    desk_bytes::store_sent(sent, s);
 }
 
+#[tactic(auto, unfolding(ground::specs::Choice::both))]
 fn is_esi_given(
     held: &[u8],
     software: usize,
@@ -92,16 +54,7 @@ fn is_esi_given(
     ensures { result ≡ both (is_held held.now) (both (eqb software 16) (both (eqb stamp 15)
         (both (is_character request) (both (eqb text 161) (eqb sent sent_size))))) }
 {
-    if !desk_bytes::is_held(held) {
-        return false;
-    }
-    if software != 16 {
-        return false;
-    }
-    if stamp != 15 {
-        return false;
-    }
-    has_room(request, text, sent)
+    desk_bytes::is_held(held) && software == 16 && stamp == 15 && has_room(request, text, sent)
 }
 
 #[unsafe(no_mangle)]
@@ -128,19 +81,17 @@ pub extern "C" fn lp_build_esi(
         return 11;
     }
     let h = desk_bytes::load_held(held);
-    let x = build::build_esi(h, software_in(software), stamp_in(stamp), request as u8);
+    let x = build::build_esi(h, fixed(software), fixed(stamp), request as u8);
     put_message(text, sent, x);
     x.refusal
 }
 
+#[tactic(auto, unfolding(ground::specs::Choice::both))]
 fn is_var_given(batch: &[u8], request: u32, text: usize, sent: usize) -> bool
     ensures { result ≡ both (is_batch batch.now)
         (both (is_character request) (both (eqb text 161) (eqb sent sent_size))) }
 {
-    if build_bytes::is_batch(batch) {
-        return has_room(request, text, sent);
-    }
-    false
+    build_bytes::is_batch(batch) && has_room(request, text, sent)
 }
 
 #[unsafe(no_mangle)]
@@ -160,6 +111,7 @@ pub extern "C" fn lp_build_var(batch: &[u8], request: u32, text: &mut [u8], sent
 
 // ---- a SUO
 
+#[tactic(auto, unfolding(ground::specs::Choice::both))]
 fn is_suo_given(
     held: &[u8],
     maker: usize,
@@ -173,28 +125,14 @@ fn is_suo_given(
     ensures { result ≡ both (is_held held.now) (both (eqb maker 2) (both (eqb software 16) (both (eqb method 3)
         (both (eqb stamp 15) (both (is_character area) (both (eqb text 128) (eqb batch batch_size))))))) }
 {
-    if !desk_bytes::is_held(held) {
-        return false;
-    }
-    if maker != 2 {
-        return false;
-    }
-    if software != 16 {
-        return false;
-    }
-    if method != 3 {
-        return false;
-    }
-    if stamp != 15 {
-        return false;
-    }
-    if 256 <= area {
-        return false;
-    }
-    if text != 128 {
-        return false;
-    }
-    batch == 168
+    desk_bytes::is_held(held)
+        && maker == 2
+        && software == 16
+        && method == 3
+        && stamp == 15
+        && area < 256
+        && text == 128
+        && batch == 168
 }
 
 fn maker_in(maker: &[u64]) -> keys::KeyMaker
@@ -224,13 +162,10 @@ fn put_suo(text: &mut [u8], batch: &mut [u8], built: build::BuiltSuo)
     ensures writes { text.new ≡ suo_text_after text.old built }
     ensures keeps { batch.new ≡ batch_after batch.old built }
 {
-    if built.refusal != 0 {
-        return;
+    if built.refusal == 0 {
+        text::copy(text, &built.batch.suo);
+        build_bytes::store_batch(batch, built.batch);
     }
-    let b = built.batch;
-    let suo = b.suo;
-    text::copy(text, &suo);
-    build_bytes::store_batch(batch, b);
 }
 
 #[unsafe(no_mangle)]
@@ -273,9 +208,9 @@ pub extern "C" fn lp_build_suo(
     let h = desk_bytes::load_held(held);
     let k = maker_in(maker);
     let g = build::Given {
-        software: software_in(software),
-        method: method_in(method),
-        stamp: stamp_in(stamp),
+        software: fixed(software),
+        method: fixed(method),
+        stamp: fixed(stamp),
         area: area as u8,
     };
     let made = build::make_suo(h, k, clock, g);

@@ -15,6 +15,8 @@ ghost use Rattle.desk_bytes.specs.Bytes.{is_held, held_in};
 ghost use Rattle.desk_edge.specs.Calls.{opened_by, no_desk_refusal, entered_by, held_after_call, values_of, are_told, length_of, are_sent, known, sent_refusal, sent_after_call};
 ghost use Rattle.desk_edge.specs.Calls.{finding_code, finding_field, esi_by, pte_by, MeetsCheck};
 
+use refusals::Refusal;
+
 // How many bytes a desk takes, and what was sent.
 #[unsafe(no_mangle)]
 pub extern "C" fn lp_held_size() -> u32
@@ -31,32 +33,30 @@ pub extern "C" fn lp_sent_size() -> u32
 }
 
 // Bytes of another length stand for zeros, which are no name.
-fn name_in(bytes: &[u8]) -> [u8; 25]
-    ensures { result ≡ fixed 25 bytes.now }
+fn fixed<const N: usize>(bytes: &[u8]) -> [u8; N]
+    ensures { result ≡ fixed N bytes.now }
 {
-    let mut out = [0; 25];
-    if bytes.len() == 25 {
+    let mut out = [0; N];
+    if bytes.len() == N {
         text::copy(&mut out, bytes);
     }
     out
 }
 
+#[tactic(auto, unfolding(ground::specs::Choice::pick))]
 fn generation_asked(length: usize, generation: u32) -> u32
     ensures { result ≡ pick (eqb length held_size) generation 10 }
 {
-    if length == 88 {
-        return generation;
-    }
-    10
+    if length == 88 { generation } else { 10 }
 }
 
 // The desk's bytes after a call: a refused one leaves them.
+#[tactic(auto, unfolding(crate::specs::Calls::held_after_call, ground::specs::Choice::pick))]
 fn put_given(held: &mut [u8], x: desk::Given)
     ensures { held.new ≡ held_after_call held.old x }
 {
     if x.refusal == 0 {
-        let h = x.held;
-        desk_bytes::store_held(held, h);
+        desk_bytes::store_held(held, x.held);
     }
 }
 
@@ -80,7 +80,7 @@ pub extern "C" fn lp_held_open(
         check: check as u64,
         generation: generation_asked(held.len(), generation),
     };
-    let x = desk::open(name_in(own), name_in(bank), p);
+    let x = desk::open(fixed(own), fixed(bank), p);
     put_given(held, x);
     x.refusal
 }
@@ -89,27 +89,28 @@ pub extern "C" fn lp_held_open(
 fn no_desk_refusal(p: desk::Parts) -> u32
     ensures { result ≡ no_desk_refusal p }
 {
-    if refusals::is_even_part(p.part1, p.part2) {
-        return 8;
-    }
-    if refusals::is_other_check(p.part1, p.part2, p.check) {
-        return 9;
-    }
-    11
+    refusals::code(refusals::first_of(&[
+        (refusals::is_even_part(p.part1, p.part2), Refusal::EvenPart),
+        (
+            refusals::is_other_check(p.part1, p.part2, p.check),
+            Refusal::OtherCheck,
+        ),
+        (true, Refusal::OutOfLimits),
+    ]))
 }
 
+#[tactic(auto, unfolding(crate::specs::Calls::entered_by, ground::specs::Choice::pick))]
 fn entered(held: &[u8], p: desk::Parts) -> desk::Given
     ensures { result ≡ entered_by held.now p }
 {
-    if !desk_bytes::is_held(held) {
-        let refusal = no_desk_refusal(p);
-        let none = desk::no_desk();
-        return desk::Given {
-            refusal,
-            held: none,
-        };
+    if desk_bytes::is_held(held) {
+        desk::enter(desk_bytes::load_held(held), p)
+    } else {
+        desk::Given {
+            refusal: no_desk_refusal(p),
+            held: desk::no_desk(),
+        }
     }
-    desk::enter(desk_bytes::load_held(held), p)
 }
 
 #[unsafe(no_mangle)]
@@ -142,21 +143,17 @@ fn put_values(values: &mut [u32], h: desk::Held)
     requires { length values.old ≡ 4 }
     ensures { values.new ≡ values_of h }
 {
-    let transport = h.transport;
-    let working = h.working;
-    values[0] = transport.generation;
-    values[1] = keys::check_value(transport.key) as u32;
-    values[2] = working.generation;
-    values[3] = keys::check_value(working.key) as u32;
+    values[0] = h.transport.generation;
+    values[1] = keys::check_value(h.transport.key) as u32;
+    values[2] = h.working.generation;
+    values[3] = keys::check_value(h.working.key) as u32;
 }
 
+#[tactic(auto, unfolding(ground::specs::Choice::both))]
 fn are_told(held: &[u8], values: usize) -> bool
     ensures { result ≡ both (is_held held.now) (eqb values 4) }
 {
-    if !desk_bytes::is_held(held) {
-        return false;
-    }
-    values == 4
+    desk_bytes::is_held(held) && values == 4
 }
 
 // The current keys' generations and check values, which both sides read out after a change.
@@ -185,51 +182,39 @@ fn five_of(m: &[u8]) -> &[u8]
     &m[..5]
 }
 
+#[tactic(auto, using(ground::proofs::Std::words))]
 fn is_long(least: usize, length: usize) -> bool
     ensures { result ≡ between least 500 length }
 {
-    if length < least {
-        return false;
-    }
-    length <= 500
+    (least..=500).contains(&length)
 }
 
+#[tactic(auto, unfolding(whole_file::specs::Messages::begins, text::specs::Letters::letters, message::specs::Layout::layout_length, message::specs::Layout::layout, message::specs::Layout::total, ground::specs::Choice::both))]
 fn is_esi_twice(first: &[u8], closing: &[u8]) -> bool
     ensures { result ≡ both (begins ">>ESI" first.now)
         (both (length_of Esi first.now) (same first.now closing.now)) }
 {
-    if !text::same_bytes(five_of(first), b">>ESI") {
-        return false;
-    }
-    if !is_long(161, first.len()) {
-        return false;
-    }
-    text::same_bytes(first, closing)
+    text::same_bytes(five_of(first), b">>ESI")
+        && is_long(161, first.len())
+        && text::same_bytes(first, closing)
 }
 
+#[tactic(auto, unfolding(whole_file::specs::Messages::begins, text::specs::Letters::letters, message::specs::Layout::layout_length, message::specs::Layout::layout, message::specs::Layout::total, ground::specs::Choice::both))]
 fn is_suo_and_var(first: &[u8], closing: &[u8]) -> bool
     ensures { result ≡ both (begins ">>SUO" first.now) (both (length_of Suo first.now)
         (both (begins ">>VAR" closing.now) (length_of Var closing.now))) }
 {
-    if !text::same_bytes(five_of(first), b">>SUO") {
-        return false;
-    }
-    if !is_long(128, first.len()) {
-        return false;
-    }
-    if !text::same_bytes(five_of(closing), b">>VAR") {
-        return false;
-    }
-    is_long(161, closing.len())
+    text::same_bytes(five_of(first), b">>SUO")
+        && is_long(128, first.len())
+        && text::same_bytes(five_of(closing), b">>VAR")
+        && is_long(161, closing.len())
 }
 
+#[tactic(auto, unfolding(crate::specs::Calls::are_sent, ground::specs::Choice::either))]
 fn are_sent(first: &[u8], closing: &[u8]) -> bool
     ensures { result ≡ are_sent first.now closing.now }
 {
-    if is_esi_twice(first, closing) {
-        return true;
-    }
-    is_suo_and_var(first, closing)
+    is_esi_twice(first, closing) || is_suo_and_var(first, closing)
 }
 
 fn known_of(m: &[u8]) -> [u8; 161]
@@ -259,18 +244,14 @@ pub extern "C" fn lp_sent_of(first: &[u8], closing: &[u8], sent: &mut [u8]) -> u
 // ---- a reply is checked
 
 // Whether a check can be served: the desk's bytes, the length of what was sent, room for three words.
+#[tactic(auto, unfolding(ground::specs::Choice::both))]
 fn is_served(held: &[u8], sent: &[u8], words: usize) -> bool
     ensures { result ≡ both (is_held held.now) (both (eqb (length sent.now) sent_size) (eqb words 3)) }
 {
-    if !desk_bytes::is_held(held) {
-        return false;
-    }
-    if sent.len() != 100 {
-        return false;
-    }
-    words == 3
+    desk_bytes::is_held(held) && sent.len() == 100 && words == 3
 }
 
+#[tactic(auto, unfolding(crate::specs::Calls::finding_code))]
 fn code_of(f: Result<(), desk::Finding>) -> u32
     ensures { result ≡ finding_code f }
 {
@@ -280,6 +261,7 @@ fn code_of(f: Result<(), desk::Finding>) -> u32
     }
 }
 
+#[tactic(auto, unfolding(crate::specs::Calls::finding_field))]
 fn field_of(f: Result<(), desk::Finding>) -> u32
     ensures { result ≡ finding_field f }
 {
@@ -294,8 +276,7 @@ fn put_word(word: &mut [u32], x: desk::Checked)
     requires { length word.old ≡ 3 }
     ensures { word.new ≡ finding_field x.finding ∷ x.letter ∷ x.code ∷ [] }
 {
-    let f = x.finding;
-    word[0] = field_of(f);
+    word[0] = field_of(x.finding);
     word[1] = x.letter as u32;
     word[2] = x.code;
 }
@@ -312,11 +293,9 @@ pub extern "C" fn lp_check_esi(held: &mut [u8], sent: &[u8], reply: &[u8], word:
     let h = desk_bytes::load_held(held);
     let s = desk_bytes::load_sent(sent);
     let x = desk::check_esi(h, s, reply);
-    let later = x.held;
-    desk_bytes::store_held(held, later);
+    desk_bytes::store_held(held, x.held);
     put_word(word, x);
-    let f = x.finding;
-    code_of(f)
+    code_of(x.finding)
 }
 
 #[unsafe(no_mangle)]
@@ -331,9 +310,7 @@ pub extern "C" fn lp_check_pte(held: &mut [u8], sent: &[u8], reply: &[u8], word:
     let h = desk_bytes::load_held(held);
     let s = desk_bytes::load_sent(sent);
     let x = desk::check_pte(h, s, reply);
-    let later = x.held;
-    desk_bytes::store_held(held, later);
+    desk_bytes::store_held(held, x.held);
     put_word(word, x);
-    let f = x.finding;
-    code_of(f)
+    code_of(x.finding)
 }

@@ -26,7 +26,6 @@ use Rattle.message.specs.declared.Kind.TheVariants.{Esi as AnyKind}
 use Rattle.message.specs.declared.About.{About}
 use Rattle.message.specs.declared.About.TheVariants.{Answered}
 use Rattle.message.specs.declared.Fault.{Fault}
-use Rattle.message.proofs.Order.{first_sound, first_found}
 use Rattle.message.proofs.Tests.{Apart, made, not_made, asked, unasked}
 use Rattle.desk_form.specs.Replies.{reply_layout, reply_size, awaited, encloses, reply_hexes, reply_form, reply_format_fails}
 use Rattle.desk_form.specs.Replies.{reply_value_fails, reply_checks}
@@ -209,16 +208,7 @@ module _ (k : Reply) (r : List ℕ) (size : ℕ) (e : size ≡ reply_size k) whe
   too_short h = sym (picks _ _ _ (ap (ltb (length r)) (sym e) ∙ lt-ltb (length r) size h))
 
   module _ (h : size ≤ length r) where
-    not_short : first_failing (reply_checks k r) ≡ first_failing (format ++ values)
+    -- else the format decides, and then the values
+    pub not_short : first_failing (reply_checks k r) ≡ first_failing (format ++ values)
     unfolding reply_checks first_failing first_that
     not_short = skips _ _ _ (ap (ltb (length r)) (sym e) ∙ le-ltb (length r) size h)
-
-    module _ (found : Result Unit Fault) (p : found ≡ first_failing format) where
-      -- a fault of the format comes first
-      pub by_format : (code field : ℕ) (of : About) → found ≡ fault_at code field of
-          → fault_at code field of ≡ first_failing (reply_checks k r)
-      by_format code field of d = sym (not_short ∙ first_found _ _ code field of (sym p ∙ d))
-
-      -- where there is none, the values decide
-      pub by_values : (second : Result Unit Fault) → found ≡ Ok tt → second ≡ first_failing values → second ≡ first_failing (reply_checks k r)
-      by_values second d q = q ∙ sym (not_short ∙ first_sound _ _ (sym p ∙ d))

@@ -14,6 +14,8 @@ use Rattle.message.specs.Rules.{Rule, Form, only, rule, one_of, format_holds, va
 use Rattle.message.specs.declared.About.TheVariants.{Answered}
 use Rattle.desk_form.specs.declared.Reply.{Reply}
 use Rattle.desk_form.specs.declared.Reply.TheVariants.{Esi, Pte}
+use Rattle.desk_form.specs.declared.Test.{Test}
+use Rattle.desk_form.specs.declared.Test.TheVariants.{Format, Value}
 
 -- ---- the layout
 
@@ -79,6 +81,11 @@ reply_format_fails k r n =
 
 unfoldable pub reply_value_fails : Reply → List ℕ → ℕ → Bool
 reply_value_fails k r n = fails (value_holds (reply_form k (encloses r)) n r)
+
+-- by what the field is tested for
+unfoldable pub fails_in : Test → Reply → List ℕ → ℕ → Bool
+fails_in Format = reply_format_fails
+fails_in Value = reply_value_fails
 
 -- 3032 shorter than the layout; 3010 lowest field first; 3011 likewise
 unfoldable pub reply_checks : Reply → List ℕ → List Check

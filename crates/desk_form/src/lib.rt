@@ -2,8 +2,8 @@
 
 #![tactic(auto)]
 
-ghost use Rattle.std.specs.Prelude.{◌≡◌, List, [], ◌∷◌, ℕ, ◌-◌, ◌<◌, ◌≤◌, min, eqb, length, take, drop, get_or};
-ghost use Rattle.ground.specs.Choice.{pick};
+ghost use Rattle.std.specs.Prelude.{◌≡◌, List, [], ◌∷◌, ℕ, ◌-◌, ◌<◌, ◌≤◌, eqb, length, take, drop, get_or};
+ghost use Rattle.ground.specs.Choice.{both};
 ghost use Rattle.ground.specs.Lists.{all, member, part, same};
 ghost use Rattle.text.specs.Characters.{digit, hex_digit, all_blank};
 ghost use Rattle.message.specs.Layout.{laid, no_field, fields, total, width_in, field_text};
@@ -11,13 +11,20 @@ ghost use Rattle.message.specs.Order.{first_failing};
 ghost use Rattle.message.specs.Rules.{only, one_of, format_holds, obeys, value_holds, each_field};
 ghost use Rattle.message.specs.declared.About.TheVariants.{Answered};
 ghost use Rattle.desk_form.specs.Replies.{reply_layout, reply_size, awaited, encloses, reply_hexes, both_rules, each_rules, reply_form};
-ghost use Rattle.desk_form.specs.Replies.{reply_format_fails, reply_value_fails, reply_checks};
+ghost use Rattle.desk_form.specs.Replies.{fails_in, reply_checks};
 
 // The messages that a bank sends back.
-#[derive(Clone, Copy)]
+#[derive(Clone, Copy, Debug, PartialEq, Eq)]
 pub enum Reply {
     Esi,
     Pte,
+}
+
+// What a field is tested for.
+#[derive(Clone, Copy, Debug, PartialEq, Eq)]
+enum Test {
+    Format,
+    Value,
 }
 
 // The fields' numbers, in their order.
@@ -66,19 +73,13 @@ fn start_of(i: usize) -> usize
     STARTS[i]
 }
 
-fn least(a: usize, b: usize) -> usize
-    ensures { result ≡ min a b }
-{
-    if a <= b { a } else { b }
-}
-
 // The characters of the fields from one place of the order to before another, as far as the reply goes.
 fn span(from: usize, to: usize, r: &[u8]) -> &[u8]
     requires { (from ≤ to) × (to ≤ 25) }
     ensures { result.now ≡ part (total (take from fields)) (total (take to fields) - total (take from fields)) r.now }
 {
-    let a = least(start_of(from), r.len());
-    let e = least(start_of(to), r.len());
+    let a = start_of(from).min(r.len());
+    let e = start_of(to).min(r.len());
     &r[a..e]
 }
 
@@ -86,7 +87,7 @@ fn span(from: usize, to: usize, r: &[u8]) -> &[u8]
 fn is_blank_over(k: Reply, r: &[u8]) -> bool
     ensures { result ≡ all_blank (drop (reply_size k) r.now) }
 {
-    let n = least(size_of(k), r.len());
+    let n = size_of(k).min(r.len());
     text::all_blank(&r[n..])
 }
 
@@ -98,10 +99,11 @@ pub fn encloses_key(r: &[u8]) -> bool
 }
 
 // A test that is made only of some fields.
+#[tactic(auto, unfolding(ground::specs::Choice::either, ground::specs::Choice::fails))]
 fn only_if(asked: bool, holds: bool) -> bool
     ensures { result ≡ only asked holds }
 {
-    if asked { holds } else { true }
+    !asked || holds
 }
 
 // Field 1 is the awaited identifier.
@@ -143,29 +145,22 @@ fn hex_holds(k: Reply, enclosed: bool, number: u32, text: &[u8]) -> bool
     }
 }
 
+#[tactic(auto, unfolding(message::specs::Rules::format_holds, ground::specs::Choice::both))]
 fn format_holds(k: Reply, enclosed: bool, blank_over: bool, number: u32, text: &[u8]) -> bool
     ensures { result ≡ format_holds (reply_form k enclosed) blank_over number text.now }
 {
-    if !only_if(number / 10 <= 16, text::all_field_characters(text)) {
-        return false;
-    }
-    if !digits_hold(number / 10, text) {
-        return false;
-    }
-    if !hex_holds(k, enclosed, number, text) {
-        return false;
-    }
-    only_if(number == 20, blank_over)
+    only_if(number / 10 <= 16, text::all_field_characters(text))
+        && digits_hold(number / 10, text)
+        && hex_holds(k, enclosed, number, text)
+        && only_if(number == 20, blank_over)
 }
 
 // One of two texts.
+#[tactic(auto, unfolding(message::specs::Rules::one_of, ground::specs::Choice::either))]
 fn one_of(a: &[u8], b: &[u8], text: &[u8]) -> bool
     ensures { result ≡ one_of (a.now ∷ b.now ∷ []) text.now }
 {
-    if text::same_bytes(a, text) {
-        return true;
-    }
-    text::same_bytes(b, text)
+    text::same_bytes(a, text) || text::same_bytes(b, text)
 }
 
 // The rules that both replies have, of one that encloses a key or not.
@@ -221,9 +216,18 @@ fn value_holds(k: Reply, enclosed: bool, number: u32, text: &[u8]) -> bool
     each_holds(k, number, text)
 }
 
-// Whether a field fails the test of the values or that of the format.
+// The format, with the awaited identifier.
+#[tactic(auto, unfolding(ground::specs::Choice::both))]
+fn is_formed(k: Reply, enclosed: bool, blank_over: bool, number: u32, text: &[u8]) -> bool
+    ensures { result ≡ both (only (eqb number 10) (same (awaited k) text.now))
+        (format_holds (reply_form k enclosed) blank_over number text.now) }
+{
+    is_awaited(k, number, text) && format_holds(k, enclosed, blank_over, number, text)
+}
+
+// Whether a field fails the test.
 fn is_broken(
-    values: bool,
+    test: Test,
     k: Reply,
     enclosed: bool,
     blank_over: bool,
@@ -232,36 +236,30 @@ fn is_broken(
 ) -> bool
     requires { length text.now ≤ width_in number fields }
     ensures { (r : List ℕ) → field_text number r ≡ text.now → encloses r ≡ «enclosed»
-        → all_blank (drop (reply_size k) r) ≡ blank_over → result ≡ pick values (reply_value_fails k r) (reply_format_fails k r) number }
+        → all_blank (drop (reply_size k) r) ≡ blank_over → result ≡ fails_in test k r number }
 {
-    if values {
-        return !value_holds(k, enclosed, number, text);
+    match test {
+        Test::Format => !is_formed(k, enclosed, blank_over, number, text),
+        Test::Value => !value_holds(k, enclosed, number, text),
     }
-    if !is_awaited(k, number, text) {
-        return true;
-    }
-    !format_holds(k, enclosed, blank_over, number, text)
 }
 
 // The lowest field that is broken.
-fn first_broken(values: bool, code: u32, k: Reply, r: &[u8]) -> Result<(), message::Fault>
-    ensures { result ≡ first_failing (each_field code Answered
-        (pick values (reply_value_fails k r.now) (reply_format_fails k r.now)) (reply_layout k)) }
+fn first_broken(test: Test, code: u32, k: Reply, r: &[u8]) -> Result<(), message::Fault>
+    ensures { result ≡ first_failing (each_field code Answered (fails_in test k r.now) (reply_layout k)) }
 {
     let count = count_of(k);
     let enclosed = encloses_key(r);
     let blank_over = is_blank_over(k, r);
-    let mut i = 0;
-    while i < count {
+    for i in 0..count {
         let number = number_of(i);
-        if is_broken(values, k, enclosed, blank_over, number, span(i, i + 1, r)) {
+        if is_broken(test, k, enclosed, blank_over, number, span(i, i + 1, r)) {
             return Err(message::Fault {
                 code,
                 field: number,
                 about: message::About::Answered,
             });
         }
-        i += 1;
     }
     Ok(())
 }
@@ -277,9 +275,6 @@ pub fn fault_of(k: Reply, r: &[u8]) -> Result<(), message::Fault>
             about: message::About::Answered,
         });
     }
-    let format = first_broken(false, 3010, k, r);
-    match format {
-        Ok(()) => first_broken(true, 3011, k, r),
-        Err(fault) => Err(fault),
-    }
+    first_broken(Test::Format, 3010, k, r)?;
+    first_broken(Test::Value, 3011, k, r)
 }

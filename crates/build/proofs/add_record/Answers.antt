@@ -8,22 +8,14 @@ use Rattle.message.specs.Fields.{method_of}
 use Rattle.build.specs.Building.{record_added}
 use Rattle.build.proofs.Known.{known_method}
 use borrow.Author.Rules.{rules}
-use Rattle.build.proofs.add_record.Lts as lts
-use Rattle.build.proofs.add_record.Reads as reads
-use Rattle.build.proofs.add_record.Tie as tie
 use Rattle.build.proofs.add_record.Goals as goal
-
-abbrev Start : Type 0
-Start = lts.Start tie.the-claims reads.Pre reads.Post
-
-sized : (c : Start) → length c.args.b.suo ≡ 128
-sized c = search rules
 
 pub returns : goal.returns
 unfolding record_added
 returns c =
     let b = c.args.b in
-    let m = c.method.ensures ∙ ap method_of c.known_suo.ensures ∙ known_method b.suo (sized c.before.before.before.before.before.before.before) in
+    let z : length b.suo ≡ 128 = search rules in
+    let m = c.method-method.ensures ∙ ap method_of c.known_suo.ensures ∙ known_method b.suo z in
     let state = c.digest_with-state.ensures
     ∙ ap (λ (x : Method). (ended x (took_bytes (enciphered b.once) (alike b.state) c.args.characters.now)).last) m in
     λ i. record { suo = b.suo; once = b.once; working = b.working; state = state i }

@@ -24,4 +24,4 @@ unfolding esi_building building_refusals layout_length layout total
 returns c =
     let a = c.args in
     built Esi (λ (x : List ℕ). x) (building_refusals Esi a.h) _ _ _ _ _ refl (sized c.before.before.before.before) c.esi_text-text.ensures
-    (λ x e. c.building_refusal-refusal.ensures ∙ ap (refused_by a.h) (c.breaks_rules.ensures x e)) c.sent_by-sent.ensures c.message_by.ensures
+    (λ x e. c.building_refusal-outcome.ensures ∙ ap (refused_by a.h) (c.breaks_rules.ensures x e)) c.sent_by-sent.ensures c.message_by.ensures

@@ -13,33 +13,20 @@ use Rattle.build.specs.Building.{breaks_rules, var_made, var_building}
 use Rattle.build.proofs.Known.{known_sent}
 use Rattle.build.proofs.Handed.{built}
 use borrow.Author.Rules.{rules}
-use Rattle.build.proofs.build_var.Lts as lts
-use Rattle.build.proofs.build_var.Reads as reads
-use Rattle.build.proofs.build_var.Tie as tie
 use Rattle.build.proofs.build_var.Goals as goal
-
-abbrev After-var_text : Type 0
-After-var_text = lts.After-var_text tie.the-claims reads.Pre reads.Post
-
-abbrev Start : Type 0
-Start = lts.Start tie.the-claims reads.Pre reads.Post
-
-sized : (c : Start) → length c.args.b.suo ≡ 128
-sized c = search rules
-
-text-sized : (c : After-var_text) → length c.var_text-text.result ≡ 161
-text-sized c = search rules
 
 pub returns : goal.returns
 unfolding var_building var_made layout_length layout total
 returns c =
     let b = c.args.b in
     let text = c.var_text-text.result in
-    built Var (λ (x : List ℕ). b.suo) (λ (x : List ℕ). refusal 13 (breaks_rules Var x) ∷ []) _ _ _ _ _ refl (text-sized c.before.before.before.before.before)
+    let z : length b.suo ≡ 128 = search rules in
+    let whole : length text ≡ 161 = search rules in
+    built Var (λ (x : List ℕ). b.suo) (λ (x : List ℕ). refusal 13 (breaks_rules Var x) ∷ []) _ _ _ _ _ refl whole
     (c.var_text-text.ensures
-    ∙ ap (λ (d : ℕ). var_built b.suo b.working d c.args.request) c.batch_digest.ensures)
-    (λ x e. c.rules_refusal-refusal.ensures
+    ∙ ap (λ (d : ℕ). var_built b.suo b.working d c.args.request) c.batch_digest-digest.ensures)
+    (λ x e. c.rules_refusal-outcome.ensures
     ∙ ap (λ (t : Bool). lowest (refusal 13 t ∷ [])) (c.breaks_rules.ensures x e))
     (c.sent_by-sent.ensures
-    ∙ ap (λ (x : List ℕ). sent_by x text) c.known_suo.ensures ∙ known_sent b.suo (sized c.before.before.before.before.before.before.before.before.before) text)
+    ∙ ap (λ (x : List ℕ). sent_by x text) c.known_suo.ensures ∙ known_sent b.suo z text)
     c.message_by.ensures

@@ -4,4 +4,4 @@ use Rattle.build.proofs.no_batch.Goals as goal
 
 pub returns : goal.returns
 unfolding no_batch
-returns c = rw c.start-state.ensures
+returns c = rw c.start.ensures

@@ -1,10 +1,7 @@
--- 13 is the one refusal.
-use mathlib.Core.Path.{sym, ◌∙◌}
-use Rattle.refusals.proofs.Refused.{lowest_first, lowest_next, none_left}
+-- The condition is that of the list.
+use Rattle.refusals.specs.Numbers.{number_of}
 use Rattle.build.proofs.rules_refusal.Goals as goal
 
-pub returns-then-broken : goal.returns-then-broken
-returns-then-broken c = sym (lowest_first _ _ c.if-broken.true)
-
 pub returns : goal.returns
-returns c = sym (lowest_next _ _ c.if-broken.false ∙ sym none_left)
+unfolding number_of
+returns c = c.first_of.ensures

@@ -8,7 +8,7 @@ unfolding batch_of dec width
 returns c =
     λ i. record {
       suo = c.read_bytes.ensures i;
-      once = c.read8-once.ensures i;
-      working = c.read8-working.ensures i;
-      state = c.state_in-state.ensures i;
+      once = c.read8.ensures i;
+      working = c.read8-2.ensures i;
+      state = c.state_in.ensures i;
     }

@@ -6,7 +6,7 @@ pub returns : goal.returns
 unfolding dec width
 returns c =
     λ i. record {
-      chain = c.read8-chain.ensures i;
-      block = c.read8-block.ensures i;
-      n = c.read8-n.ensures i;
+      chain = c.read8.ensures i;
+      block = c.read8-2.ensures i;
+      n = c.read8-3.ensures i;
     }

@@ -9,6 +9,6 @@ returns c =
     λ i. record {
       own = c.read_bytes.ensures i;
       bank = c.read_bytes-2.ensures i;
-      transport = c.keys_in-transport.ensures i;
-      working = c.keys_in-working.ensures i;
+      transport = c.keys_in.ensures i;
+      working = c.keys_in-2.ensures i;
     }

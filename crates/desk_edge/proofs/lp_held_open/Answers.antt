@@ -14,7 +14,7 @@ unfolding parts_asked opened_by
 returns c = let a = c.args in
     let parts : ℕ → Parts = λ g. record { part1 = a.part1; part2 = a.part2; check = a.check; generation = g } in
     let e = c.open-x.ensures
-    ∙ ap₂ (λ (x y : List ℕ). opening x y (parts c.generation_asked.result)) c.name_in.ensures c.name_in-2.ensures
+    ∙ ap₂ (λ (x y : List ℕ). opening x y (parts c.generation_asked.result)) c.fixed.ensures c.fixed-2.ensures
     ∙ ap (λ (g : ℕ). opening (fixed 25 a.own.now) (fixed 25 a.bank.now) (parts g)) c.generation_asked.ensures in
     record {
       answers = ap (λ (x : Given). x.refusal) e;

@@ -1,6 +1,5 @@
 -- The fields passed are not broken, so the rest decides.
 use mathlib.Core.Path.{refl, sym}
-use Prim.Native.Nat.{◌-◌}
 use native.Mathlib.Omega.{arith}
 use Rattle.message.proofs.Places.{narrow}
 use Rattle.desk_form.proofs.Places.{placed, lent_field}
@@ -12,10 +11,6 @@ loop-i-init c = (omega arith, refl)
 
 pub number_of-number-requires : goal.number_of-number-requires
 number_of-number-requires c = within _ _ _ c.count_of-count.ensures c.loop-i-test.true
-
-pub overflow_add-i : goal.overflow_add-i
-overflow_add-i c =
-    omega (arith, within _ _ _ c.count_of-count.ensures c.loop-i-test.true)
 
 pub span-requires : goal.span-requires
 span-requires c =
@@ -35,10 +30,6 @@ returns-then-is_broken c =
     stops _ _ _ _ _ _ count c.loop-i.invariant.1 here _ _ (numbered _ _ _ count here _ c.number_of-number.ensures)
     (c.is_broken.ensures _ text (sym c.encloses_key-enclosed.ensures) (sym c.is_blank_over-blank_over.ensures))
     c.if-is_broken.true
-
-pub overflow_add-i-in-loop-i : goal.overflow_add-i-in-loop-i
-overflow_add-i-in-loop-i c =
-    omega (arith, within _ _ _ c.count_of-count.ensures c.loop-i-test.true)
 
 pub loop-i-preserved : goal.loop-i-preserved
 loop-i-preserved c =

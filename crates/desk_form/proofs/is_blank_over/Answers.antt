@@ -12,9 +12,9 @@ use Rattle.desk_form.proofs.is_blank_over.Goals as goal
 pub returns : goal.returns
 returns c =
     let r = c.args.r.now in
-    let cut : c.least-n.result ≡ min (reply_size _) (length r) =
-    c.least-n.ensures ∙ ap (λ (n : ℕ). min n (length r)) c.size_of.ensures in
-    let n = c.least-n.result in
+    let cut : c.min-n.result ≡ min (reply_size _) (length r) =
+    c.min-n.ensures ∙ ap (λ (n : ℕ). min n (length r)) c.size_of.ensures in
+    let n = c.min-n.result in
     c.all_blank.ensures
     ∙ ap all_blank
     (take_all (length r - n) (drop n r) (omega (arith, length-drop n r))

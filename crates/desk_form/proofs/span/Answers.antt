@@ -7,16 +7,16 @@ pub slice_bounds-result-count : goal.slice_bounds-result-count
 slice_bounds-result-count c =
     cut_ordered _ _ c.args.r.now
     (ordered _ _ c.requires.0) c.start_of.ensures
-    c.start_of-2.ensures c.least-a.ensures c.least-e.ensures
+    c.start_of-2.ensures c.min-a.ensures c.min-e.ensures
 
 pub slice_bounds-result-start : goal.slice_bounds-result-start
 slice_bounds-result-start c =
     cut_ordered _ _ c.args.r.now
     (ordered _ _ c.requires.0) c.start_of.ensures
-    c.start_of-2.ensures c.least-a.ensures c.least-e.ensures
+    c.start_of-2.ensures c.min-a.ensures c.min-e.ensures
 
 pub returns : goal.returns
 returns c =
     cut_part _ _ _ (ordered _ _ c.requires.0)
     c.start_of.ensures c.start_of-2.ensures
-    c.least-a.ensures c.least-e.ensures
+    c.min-a.ensures c.min-e.ensures

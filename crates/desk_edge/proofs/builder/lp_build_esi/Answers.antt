@@ -48,5 +48,5 @@ pub returns : goal.returns
 returns c =
     let a = c.args in
     esi_served a.held.now a.software.now a.stamp.now a.request a.text.now a.sent.now (given c.before.before.before.before.before.before.before.before.before.before.before.before) _
-    c.build_esi-x.ensures c.load_held-h.ensures c.software_in.ensures c.stamp_in.ensures
+    c.build_esi-x.ensures c.load_held-h.ensures c.fixed.ensures c.fixed-2.ensures
     refl c.put_message.ensures.writes c.put_message.ensures.keeps

@@ -57,6 +57,6 @@ pub returns : goal.returns
 returns c = let a = c.args in
     let all = suo_served a.held.now a.maker.now a.clock a.software.now a.method.now a.stamp.now a.area a.text.now
     a.batch.now (given c.before.before.before.before.before.before.before.before.before.before.before.before.before.before.before.before.before.before.before.before) _ c.make_suo-made.ensures c.load_held-h.ensures c.maker_in-k.ensures
-    c.software_in.ensures c.method_in.ensures c.stamp_in.ensures
+    c.fixed.ensures c.fixed-2.ensures c.fixed-3.ensures
     refl c.put_suo.ensures.writes c.put_suo.ensures.keeps c.put_maker.ensures in
     record { answers = all.0; writes = all.1.0; keeps = all.1.1.0; moves = all.1.1.1 }
