@@ -5,7 +5,7 @@ use mathlib.Core.Path.{◌≡◌, refl, sym, ap, ap₂, ◌∙◌}
 use mathlib.Core.Bool.{true, false}
 use mathlib.Core.List.{List, [], ◌∷◌}
 use borrow.Author.Tests.{eq-eqb, ne_eqb}
-use Rattle.ground.specs.Choice.{either, fails, between}
+use Rattle.ground.specs.Choice.{fails, between}
 use Rattle.ground.proofs.Choices.{picks, skips, between_in, fails-false}
 use Rattle.ground.proofs.Bools.{either_none}
 use Rattle.calendar.specs.Dates.{real_time}

@@ -82,14 +82,16 @@ pub fn open(t: &mut [u8], o: opening::Opening) -> OpenAnswer
 // ---- read
 
 // Writes a reply, if there is one, and says how long it is.
+#[tactic(auto, unfolding(crate::specs::Reading::length_of, crate::specs::Reading::room_after, ground::specs::Choice::pick))]
 fn put_reply(room: &mut [u8], r: session::Reply) -> usize
     ensures value { result ≡ length_of r room.old }
     ensures room_after { room.new ≡ room_after r room.old }
 {
-    if !r.given {
-        return 0;
+    if r.given {
+        reply::write(room, r.answer)
+    } else {
+        0
     }
-    reply::write(room, r.answer)
 }
 
 fn refused(refusal: u32, session: session::Session) -> Answer
@@ -112,10 +114,7 @@ pub fn reading_refusal(t: &[u8], s: session::Session, room: &[u8]) -> Result<(),
     refusals::first_of(&[
         (room.len() < 317, Refusal::NoRoom),
         (!table::is_table(t), Refusal::NoTable),
-        (
-            session::is_read_refused(s, day.yymmdd),
-            Refusal::NoSession,
-        ),
+        (session::is_read_refused(s, day.yymmdd), Refusal::NoSession),
     ])
 }
 
@@ -180,10 +179,7 @@ pub fn ending_refusal(t: &[u8], s: session::Session, room: &[u8]) -> Result<(), 
     refusals::first_of(&[
         (room.len() < 317, Refusal::NoRoom),
         (!table::is_table(t), Refusal::NoTable),
-        (
-            session::is_end_refused(s, day.yymmdd),
-            Refusal::NoSession,
-        ),
+        (session::is_end_refused(s, day.yymmdd), Refusal::NoSession),
     ])
 }
 
