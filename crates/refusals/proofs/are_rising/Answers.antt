@@ -1,6 +1,5 @@
 -- What is left of the dates decides.
 use mathlib.Core.Path.{refl}
-use Prim.Native.Nat.{◌-◌}
 use native.Mathlib.Omega.{arith}
 use Rattle.refusals.proofs.Dates.{rising_stop, rising_more, rising_done}
 use Rattle.ground.proofs.Bools.{passed, refused}
