@@ -156,16 +156,12 @@ pub fn are_real(dates: &[u32]) -> bool
 pub fn are_rising(dates: &[u32]) -> bool
     ensures { result ≡ rising dates.now }
 {
-    let mut i = 0;
-    while i + 1 < dates.len() {
-        let low = calendar::Date { yymmdd: dates[i] };
-        let high = calendar::Date {
-            yymmdd: dates[i + 1],
-        };
+    for w in dates.windows(2) {
+        let low = calendar::Date { yymmdd: w[0] };
+        let high = calendar::Date { yymmdd: w[1] };
         if !low.before(high) {
             return false;
         }
-        i += 1;
     }
     true
 }
