@@ -1,4 +1,3 @@
 -- Laws that belong to no one function.
-pub mod Refusing
 pub mod Opening
 pub mod Serving

@@ -1,19 +1,19 @@
 -- Of an opening's conditions the lowest that holds is answered, and where none does today's date is stored and a new file begins.
 -- Assumes nothing.
-use Prim.Native.Nat.{ℕ, ◌<◌, ◌≤◌}
+use Prim.Native.Nat.{ℕ, ◌≤◌}
 use mathlib.Core.Path.{◌≡◌, refl, sym, ap, ap₂, ◌∙◌}
 use mathlib.Core.Bool.{true, false}
 use mathlib.Core.List.{List, [], ◌∷◌}
 use borrow.Author.Tests.{eq-eqb, ne_eqb}
-use Rattle.ground.specs.Choice.{either, fails, between}
-use Rattle.ground.proofs.Choices.{picks, skips, either_left, either_right, between_in, between_below, between_above, fails-false}
+use Rattle.ground.specs.Choice.{fails, between}
+use Rattle.ground.proofs.Choices.{picks, skips, between_in, fails-false}
 use Rattle.ground.proofs.Bools.{either_none}
 use Rattle.calendar.specs.Dates.{real_time}
 use Rattle.table.specs.Decode.{is_table, table_of}
 use Rattle.table.specs.Stored.{day_stored}
 use Rattle.table.proofs.Stores.{day_is}
 use Rattle.refusals.specs.Refusals.{lowest, no_table, bad_day}
-use Rattle.refusals.proofs.Refused.{lowest_first, lowest_next, none_left, served}
+use Rattle.refusals.proofs.Refused.{lowest_next, none_left, served}
 use Rattle.table_calls.proofs.Rewritten.{served_leaves, refused_as}
 use Rattle.opening.specs.declared.Opening.{Opening}
 use Rattle.session.specs.Machine.{opened, unopened}
@@ -24,35 +24,12 @@ use Rattle.calls.specs.Promises.{MeetsOpen}
 module _ (b : List ℕ) (o : Opening) where
   -- ---- the conditions, in the order of their numbers
 
-  pub no_table_lem : is_table b ≡ false → 2 ≡ opening_answer b o
-  unfolding opening_answer opening_refusals no_table fails
-  no_table_lem e = sym (lowest_first _ _ (ap fails e))
-
   module _ (e : is_table b ≡ true) where
-    bad_moment : either (bad_day (table_of b) o.today) (fails (real_time o.time)) ≡ true → 4 ≡ opening_answer b o
-    unfolding opening_answer opening_refusals no_table fails
-    bad_moment h = sym (lowest_next _ _ (ap fails e) ∙ lowest_first _ _ h)
-
-    pub bad_day_lem : bad_day (table_of b) o.today ≡ true → 4 ≡ opening_answer b o
-    bad_day_lem h = bad_moment (either_left _ _ h)
-
     module _ (d : bad_day (table_of b) o.today ≡ false) where
-      pub no_time : real_time o.time ≡ false → 4 ≡ opening_answer b o
-      unfolding fails
-      no_time h = bad_moment (either_right _ _ (ap fails h))
-
       module _ (t : real_time o.time ≡ true) where
         good_moment : opening_answer b o ≡ lowest (record { number = 11; holds = fails (between 1 16 o.kind) } ∷ [])
         unfolding opening_answer opening_refusals no_table fails
         good_moment = lowest_next _ _ (ap fails e) ∙ lowest_next _ _ (either_none _ _ d (ap fails t))
-
-        pub kind_below : o.kind < 1 → 11 ≡ opening_answer b o
-        unfolding fails
-        kind_below h = sym (good_moment ∙ lowest_first _ _ (ap fails (between_below 1 16 o.kind h)))
-
-        pub kind_above : 16 < o.kind → 11 ≡ opening_answer b o
-        unfolding fails
-        kind_above h = sym (good_moment ∙ lowest_first _ _ (ap fails (between_above 1 16 o.kind h)))
 
         pub kind_good : 1 ≤ o.kind → o.kind ≤ 16 → 0 ≡ opening_answer b o
         unfolding fails

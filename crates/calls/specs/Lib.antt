@@ -2,4 +2,3 @@
 pub mod Reading
 pub mod Calls
 pub mod Promises
-pub mod Lent

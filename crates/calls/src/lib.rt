@@ -4,11 +4,16 @@
 #![tactic(auto)]
 
 ghost use Rattle.std.specs.Prelude.{◌≡◌, false};
-ghost use Rattle.refusals.specs.Refusals.{lowest};
+ghost use Rattle.refusals.specs.Numbers.{code_of};
+ghost use Rattle.ground.specs.Choice.{either, fails, between};
+ghost use Rattle.calendar.specs.Dates.{real_time};
+ghost use Rattle.table.specs.Decode.{table_of};
+ghost use Rattle.refusals.specs.Refusals.{lowest, bad_day};
 ghost use Rattle.calls.specs.Reading.{opening_answer, awaits, finishes, room_after, length_of, reading_refusals, ending_refusals};
 ghost use Rattle.calls.specs.Reading.{read_done, end_done};
-ghost use Rattle.calls.specs.Lent.{lent_refusals};
 ghost use Rattle.calls.specs.Promises.{MeetsOpen, MeetsReading};
+
+use refusals::Refusal;
 
 #[derive(Clone, Copy)]
 pub struct OpenAnswer {
@@ -29,42 +34,45 @@ pub struct Answer {
 
 // ---- open
 
-// The number of the lowest refusal of an opening, or 0.
-pub fn opening_refusal(t: &[u8], o: opening::Opening) -> u32
-    ensures { result ≡ opening_answer t.now o }
+// Whether the day is no day to open a file on, or the time is not real.
+#[tactic(auto, unfolding(ground::specs::Choice::either, ground::specs::Choice::fails))]
+fn is_moment_bad(t: &[u8], o: opening::Opening) -> bool
+    ensures { result ≡ either (bad_day (table_of t.now) o.today) (fails (real_time o.time)) }
 {
-    if !table::is_table(t) {
-        return 2;
-    }
-    let today = o.today;
-    if refusals::is_bad_day(t, today) {
-        return 4;
-    }
-    if !calendar::is_real_time(o.time) {
-        return 4;
-    }
-    if o.kind < 1 {
-        return 11;
-    }
-    if 16 < o.kind {
-        return 11;
-    }
-    0
+    refusals::is_bad_day(t, o.today) || !calendar::is_real_time(o.time)
 }
 
-// Opens a file: stores today's date in the table.
+// Whether the data type is none of the sixteen.
+#[tactic(auto, using(ground::proofs::Std::words))]
+fn is_kind_out(kind: u32) -> bool
+    ensures { result ≡ fails (between 1 16 kind) }
+{
+    !(1 <= kind && kind <= 16)
+}
+
+/// Why a file can't be opened, if it can't.
+pub fn opening_refusal(t: &[u8], o: opening::Opening) -> Result<(), Refusal>
+    ensures { code_of result ≡ opening_answer t.now o }
+{
+    refusals::first_of(&[
+        (!table::is_table(t), Refusal::NoTable),
+        (is_moment_bad(t, o), Refusal::BadDate),
+        (is_kind_out(o.kind), Refusal::OutOfLimits),
+    ])
+}
+
+/// Opens a file: stores today's date in the table.
 pub fn open(t: &mut [u8], o: opening::Opening) -> OpenAnswer
     ensures { MeetsOpen t.old o result t.new }
 {
-    let refusal = opening_refusal(t, o);
-    if refusal != 0 {
+    let outcome = opening_refusal(t, o);
+    if let Err(_) = outcome {
         return OpenAnswer {
-            refusal,
+            refusal: refusals::code(outcome),
             session: session::no_file(),
         };
     }
-    let today = o.today;
-    table::store_day(t, today);
+    table::store_day(t, o.today);
     OpenAnswer {
         refusal: 0,
         session: session::opened_file(o),
@@ -74,15 +82,16 @@ pub fn open(t: &mut [u8], o: opening::Opening) -> OpenAnswer
 // ---- read
 
 // Writes a reply, if there is one, and says how long it is.
+#[tactic(auto, unfolding(crate::specs::Reading::length_of, crate::specs::Reading::room_after, ground::specs::Choice::pick))]
 fn put_reply(room: &mut [u8], r: session::Reply) -> usize
     ensures value { result ≡ length_of r room.old }
     ensures room_after { room.new ≡ room_after r room.old }
 {
-    if !r.given {
-        return 0;
+    if r.given {
+        reply::write(room, r.answer)
+    } else {
+        0
     }
-    let answer = r.answer;
-    reply::write(room, answer)
 }
 
 fn refused(refusal: u32, session: session::Session) -> Answer
@@ -97,53 +106,34 @@ fn refused(refusal: u32, session: session::Session) -> Answer
     }
 }
 
-// The number of the lowest refusal that reads and ends share, 1 or 2, or 0.
-fn lent_refusal(t: &[u8], room: &[u8]) -> u32
-    ensures { result ≡ lowest (lent_refusals t.now room.now) }
+/// Why a read is refused, if it is.
+pub fn reading_refusal(t: &[u8], s: session::Session, room: &[u8]) -> Result<(), Refusal>
+    ensures { code_of result ≡ lowest (reading_refusals s t.now room.now) }
 {
-    if room.len() < 317 {
-        return 1;
-    }
-    if !table::is_table(t) {
-        return 2;
-    }
-    0
-}
-
-// The number of the lowest refusal of a read, or 0.
-pub fn reading_refusal(t: &[u8], s: session::Session, room: &[u8]) -> u32
-    ensures { result ≡ lowest (reading_refusals s t.now room.now) }
-{
-    let refusal = lent_refusal(t, room);
-    if refusal != 0 {
-        return refusal;
-    }
     let day = table::day(t);
-    if session::is_read_refused(s, day.yymmdd) {
-        return 3;
-    }
-    0
+    refusals::first_of(&[
+        (room.len() < 317, Refusal::NoRoom),
+        (!table::is_table(t), Refusal::NoTable),
+        (session::is_read_refused(s, day.yymmdd), Refusal::NoSession),
+    ])
 }
 
-// Takes bytes through the LF that settles a reply, or all of them.
+/// Takes bytes through the LF that settles a reply, or all of them.
 pub fn read(t: &mut [u8], s: session::Session, input: &[u8], room: &mut [u8]) -> Answer
     ensures { MeetsReading (read_done s t.old input.now room.old) result t.new room.new }
 {
-    let refusal = reading_refusal(t, s, room);
-    if refusal != 0 {
-        return refused(refusal, s);
+    let outcome = reading_refusal(t, s, room);
+    if let Err(_) = outcome {
+        return refused(refusals::code(outcome), s);
     }
     let x = read_bytes::scan(s, t, input);
     let session = x.session;
-    let reply = x.reply;
-    let place = session.place;
-    let length = put_reply(room, reply);
-    let closed = session::is_closed(place);
+    let length = put_reply(room, x.reply);
     Answer {
         refusal: 0,
         taken: x.taken,
         length,
-        finished: closed,
+        finished: session::is_closed(session.place),
         session,
     }
 }
@@ -151,12 +141,11 @@ pub fn read(t: &mut [u8], s: session::Session, input: &[u8], room: &mut [u8]) ->
 // ---- end
 
 // Another reply is due.
+#[tactic(auto, unfolding(crate::specs::Reading::awaits))]
 fn awaiting(s: session::Session) -> session::Session
     ensures { result ≡ awaits s }
 {
-    let mut after = s;
-    after.ended = true;
-    after
+    session::Session { ended: true, ..s }
 }
 
 fn finished(s: session::Session) -> session::Session
@@ -182,43 +171,37 @@ fn answered(session: session::Session, length: usize, finished: bool) -> Answer
     }
 }
 
-// The number of the lowest refusal of an end, or 0.
-pub fn ending_refusal(t: &[u8], s: session::Session, room: &[u8]) -> u32
-    ensures { result ≡ lowest (ending_refusals s t.now room.now) }
+/// Why an end is refused, if it is.
+pub fn ending_refusal(t: &[u8], s: session::Session, room: &[u8]) -> Result<(), Refusal>
+    ensures { code_of result ≡ lowest (ending_refusals s t.now room.now) }
 {
-    let refusal = lent_refusal(t, room);
-    if refusal != 0 {
-        return refusal;
-    }
     let day = table::day(t);
-    if session::is_end_refused(s, day.yymmdd) {
-        return 3;
-    }
-    0
+    refusals::first_of(&[
+        (room.len() < 317, Refusal::NoRoom),
+        (!table::is_table(t), Refusal::NoTable),
+        (session::is_end_refused(s, day.yymmdd), Refusal::NoSession),
+    ])
 }
 
-// Signals the file's end: at most one reply, and finished with the last or at once.
+/// Signals the file's end: at most one reply, and finished with the last or at once.
 pub fn end(t: &mut [u8], s: session::Session, room: &mut [u8]) -> Answer
     ensures { MeetsReading (end_done s t.old room.old) result t.new room.new }
 {
-    let refusal = ending_refusal(t, s, room);
-    if refusal != 0 {
-        return refused(refusal, s);
+    let outcome = ending_refusal(t, s, room);
+    if let Err(_) = outcome {
+        return refused(refusals::code(outcome), s);
     }
     let x = read_bytes::last_ended(s, t);
     let after = x.session;
     let reply = x.reply;
-    let place = after.place;
     if reply.given {
         let length = put_reply(room, reply);
-        if session::is_due(place) {
+        if session::is_due(after.place) {
             return answered(awaiting(after), length, false);
         }
         return answered(finished(after), length, true);
     }
     let y = read_records::file_ended(after, t);
-    let over = y.session;
-    let last = y.reply;
-    let length = put_reply(room, last);
-    answered(finished(over), length, true)
+    let length = put_reply(room, y.reply);
+    answered(finished(y.session), length, true)
 }

@@ -1,17 +1,16 @@
 -- What each call is handed is what the numbers and bytes say, and what it answers is packed and stored.
 -- Assumes nothing.
-use Prim.Native.Nat.{ℕ, ◌<◌, ◌≤◌}
+use Prim.Native.Nat.{ℕ}
 use mathlib.Core.Path.{◌≡◌, refl, sym, ap, ◌∙◌}
-use mathlib.Core.Bool.{true, false}
 use mathlib.Core.List.{List, [], append-nil}
 use native.Mathlib.Omega.{arith}
 use lib.Dec.{eqb}
 use lib.ListN.{length, replicate, drop_of_length-le}
 use lib.Seq.{take_all}
-use borrow.Author.Tests.{eq-eqb, ne_eqb, lt-ltb, le-ltb}
+use borrow.Author.Tests.{eq-eqb, ne_eqb}
 use Rattle.ground.specs.Choice.{pick}
 use Rattle.ground.specs.Lists.{overlay}
-use Rattle.ground.proofs.Choices.{join, fails_left, fails_right, picks, skips}
+use Rattle.ground.proofs.Choices.{picks, skips}
 use Rattle.session_bytes.specs.Session.{session_size, session_in, session_stored}
 use Rattle.session.specs.declared.Session.{Session}
 use Rattle.table_calls.specs.Calls.{setting_up_answer, adding_answer, entering_answer, ordering_answer}
@@ -21,7 +20,7 @@ use Rattle.calls.specs.Reading.{Done, opening_gives, opening_leaves, read_done, 
 use Rattle.calls.specs.declared.Answer.{Answer}
 use Rattle.calls.specs.declared.OpenAnswer.{OpenAnswer}
 use Rattle.calls.specs.Calls.{refusal_of, left_by}
-use Rattle.edge.specs.Edge.{fixed, is_flag, types_by, setting_by, adding_by, entering_by, ordering_by, opening_by, read_by, end_by}
+use Rattle.edge.specs.Edge.{fixed, setting_by, adding_by, entering_by, ordering_by, opening_by, read_by, end_by}
 use Rattle.edge.specs.Edge.{session_after_opening, session_after, packed}
 use Rattle.edge.specs.Box.{lp_set_up, lp_add, lp_enter, lp_order, lp_open, lp_read, lp_end}
 use Rattle.edge.specs.Box.{call_of, box_answer, box_table, box_session, box_room, MeetsBox}
@@ -37,33 +36,6 @@ fixed_copied n l d e f =
 pub fixed_none : (n : ℕ) (l : List ℕ) → (length l ≡ n → ⊥) → replicate n 0 ≡ fixed n l
 unfolding fixed
 fixed_none n l e = sym (skips _ l (replicate n 0) (ne_eqb _ _ e))
-
--- ---- yes-or-no numbers
-
-no_flag : (n : ℕ) → 2 ≤ n → is_flag n ≡ false
-unfolding is_flag
-no_flag n h = le-ltb n 2 h
-
-flag : (n : ℕ) → n < 2 → is_flag n ≡ true
-unfolding is_flag
-flag n h = lt-ltb n 2 h
-
-module _ (types agreed leave given : ℕ) where
-  pub types_agreed : 2 ≤ agreed → 65536 ≡ types_by types agreed leave given
-  unfolding types_by
-  types_agreed h = sym (skips _ types 65536 (fails_left _ _ (no_flag agreed h)))
-
-  pub types_leave : 2 ≤ leave → 65536 ≡ types_by types agreed leave given
-  unfolding types_by
-  types_leave h = sym (skips _ types 65536 (fails_right _ _ (fails_left _ _ (no_flag leave h))))
-
-  pub types_given : 2 ≤ given → 65536 ≡ types_by types agreed leave given
-  unfolding types_by
-  types_given h = sym (skips _ types 65536 (fails_right _ _ (fails_right _ _ (no_flag given h))))
-
-  pub types_good : agreed < 2 → leave < 2 → given < 2 → types ≡ types_by types agreed leave given
-  unfolding types_by
-  types_good a l g = sym (picks _ types 65536 (join _ _ (flag agreed a) (join _ _ (flag leave l) (flag given g))))
 
 -- ---- the session's bytes after a call
 

@@ -4,53 +4,41 @@
 
 ghost use Rattle.std.specs.Prelude.{◌≡◌, [], ◌%◌, ◌<◌, ◌^◌, eqb};
 ghost use Rattle.ground.specs.Choice.{pick, one};
-ghost use Rattle.session_bytes.specs.Session.{session_size};
-ghost use Rattle.edge.specs.Edge.{fixed, length_by, types_by, session_after_opening, session_after, packed};
+ghost use Rattle.session_bytes.specs.Session.{session_size, session_stored};
+ghost use Rattle.edge.specs.Edge.{fixed, length_by, types_by, packed};
 ghost use Rattle.edge.specs.Box.{MeetsBox, lp_set_up, lp_add, lp_enter, lp_order, lp_open, lp_read, lp_end};
 
 // Bytes of another length stand for zeros, which are no name.
-fn fixed25(bytes: &[u8]) -> [u8; 25]
-    ensures { result ≡ fixed 25 bytes.now }
+#[tactic(auto, unfolding(crate::specs::Edge::fixed, ground::specs::Choice::pick))]
+fn fixed<const N: usize>(bytes: &[u8]) -> [u8; N]
+    ensures { result ≡ fixed N bytes.now }
 {
-    let mut out = [0; 25];
-    if bytes.len() == 25 {
-        text::copy(&mut out, bytes);
+    let mut out = [0; N];
+    if bytes.len() == N {
+        out.copy_from_slice(bytes);
     }
     out
 }
 
-fn fixed16(bytes: &[u8]) -> [u8; 16]
-    ensures { result ≡ fixed 16 bytes.now }
-{
-    let mut out = [0; 16];
-    if bytes.len() == 16 {
-        text::copy(&mut out, bytes);
-    }
-    out
-}
+// What stands for types where a yes-or-no number is neither: past the sixteenth, which no customer may have.
+const NO_TYPES: u32 = 65536;
 
+#[tactic(auto, using(ground::proofs::Std::words), unfolding(crate::specs::Edge::types_by, crate::specs::Edge::is_flag))]
 fn types_by(types: u32, agreed: u32, leave: u32, given: u32) -> u32
     ensures { result ≡ types_by types agreed leave given }
 {
-    if 2 <= agreed {
-        return 65536;
+    if agreed < 2 && leave < 2 && given < 2 {
+        types
+    } else {
+        NO_TYPES
     }
-    if 2 <= leave {
-        return 65536;
-    }
-    if 2 <= given {
-        return 65536;
-    }
-    types
 }
 
+#[tactic(auto, unfolding(crate::specs::Edge::length_by, ground::specs::Choice::pick))]
 fn length_by(given: u32, n: calendar::CalendarDays) -> Option<calendar::CalendarDays>
     ensures { result ≡ length_by given n }
 {
-    if given == 0 {
-        return None;
-    }
-    Some(n)
+    (given != 0).then_some(n)
 }
 
 // How many bytes a session takes.
@@ -76,8 +64,8 @@ pub extern "C" fn lp_set_up(
         result table.new [] [] }
 {
     let s = table_calls::Setting {
-        bank: fixed25(bank),
-        software: fixed16(software),
+        bank: fixed(bank),
+        software: fixed(software),
         floor,
         key: k,
         seed: v,
@@ -106,7 +94,7 @@ pub extern "C" fn lp_add(
 {
     let a = table_calls::Adding {
         today: calendar::Date { yymmdd: today },
-        who: fixed25(who),
+        who: fixed(who),
         part1,
         part2,
         check: check as u64,
@@ -135,7 +123,7 @@ pub extern "C" fn lp_enter(
 {
     let e = table_calls::Entering {
         today: calendar::Date { yymmdd: today },
-        who: fixed25(who),
+        who: fixed(who),
         part1,
         part2,
         check: check as u64,
@@ -152,29 +140,27 @@ pub extern "C" fn lp_order(table: &mut [u8], today: u32, who: &[u8], clock: u64)
 {
     let o = table_calls::Ordering {
         today: calendar::Date { yymmdd: today },
-        who: fixed25(who),
+        who: fixed(who),
         clock,
     };
     refusals::code(table_calls::order(table, o))
 }
 
 // A session's buffer of another length stands for a data type that is none.
+#[tactic(auto, unfolding(ground::specs::Choice::pick))]
 fn kind_asked(length: usize, kind: u32) -> u32
     ensures { result ≡ pick (eqb length session_size) kind 0 }
 {
-    if length == 472 {
-        return kind;
-    }
-    0
+    if length == 472 { kind } else { 0 }
 }
 
-// The session's bytes after an opening: a refused one leaves them.
-fn put_opened(session: &mut [u8], o: calls::OpenAnswer)
-    ensures { session.new ≡ session_after_opening session.old o }
+// The session's bytes after a call: a refused one leaves them.
+#[tactic(auto, unfolding(ground::specs::Choice::pick))]
+fn put_session(session: &mut [u8], refusal: u32, after: session::Session)
+    ensures { session.new ≡ pick (eqb refusal 0) (session_stored session.old after) session.old }
 {
-    if o.refusal == 0 {
-        let s = o.session;
-        session_bytes::store(session, s);
+    if refusal == 0 {
+        session_bytes::store(session, after);
     }
 }
 
@@ -198,17 +184,15 @@ pub extern "C" fn lp_open(
         clock,
     };
     let a = calls::open(table, o);
-    put_opened(session, a);
+    put_session(session, a.refusal, a.session);
     a.refusal
 }
 
+#[tactic(auto, unfolding(ground::specs::Choice::one))]
 fn one_of(b: bool) -> u64
     ensures { (result ≡ one b) × (result < 2) }
 {
-    if b {
-        return 1;
-    }
-    0
+    u64::from(b)
 }
 
 // The lowest 40 bits, 16 bits and 7 bits.
@@ -241,16 +225,6 @@ fn packed_answer(a: calls::Answer) -> u64
     taken + 1099511627776 * length + 72057594037927936 * finished + 144115188075855872 * refusal
 }
 
-// The session's bytes after a call: a refused one leaves them.
-fn put_session(session: &mut [u8], a: calls::Answer)
-    ensures { session.new ≡ session_after session.old a }
-{
-    if a.refusal == 0 {
-        let s = a.session;
-        session_bytes::store(session, s);
-    }
-}
-
 #[unsafe(no_mangle)]
 pub extern "C" fn lp_read(
     table: &mut [u8],
@@ -264,7 +238,7 @@ pub extern "C" fn lp_read(
 {
     let s = session_bytes::load(session);
     let a = calls::read(table, s, input, reply);
-    put_session(session, a);
+    put_session(session, a.refusal, a.session);
     packed_answer(a)
 }
 
@@ -276,6 +250,6 @@ pub extern "C" fn lp_end(table: &mut [u8], session: &mut [u8], reply: &mut [u8])
 {
     let s = session_bytes::load(session);
     let a = calls::end(table, s, reply);
-    put_session(session, a);
+    put_session(session, a.refusal, a.session);
     packed_answer(a)
 }

@@ -72,17 +72,15 @@ pub fn first_of(conditions: &[(bool, Refusal)]) -> Result<(), Refusal>
 }
 
 // Whether today is no real date, or before the table's day.
+#[tactic(auto, using(ground::proofs::Std::words), unfolding(crate::specs::Refusals::bad_day))]
 pub fn is_bad_day(t: &[u8], today: calendar::Date) -> bool
     ensures { result ≡ bad_day (table_of t.now) today }
 {
-    if !today.is_real() {
-        return true;
-    }
-    let day = table::day(t);
-    today.before(day)
+    !today.is_real() || today.before(table::day(t))
 }
 
 // Whether the table has no room for one more customer.
+#[tactic(auto, using(ground::proofs::Std::words), unfolding(crate::specs::Refusals::table_full))]
 pub fn is_full(t: &[u8]) -> bool
     ensures { result ≡ table_full (table_of t.now) }
 {
@@ -90,35 +88,31 @@ pub fn is_full(t: &[u8]) -> bool
 }
 
 // Whether a customer has that identity and qualifier.
+#[tactic(auto, unfolding(crate::specs::Refusals::already_there, table::specs::Table::is_unknown, ground::specs::Choice::fails))]
 pub fn is_there(t: &[u8], who: [u8; 25]) -> bool
     ensures { result ≡ already_there (table_of t.now) who }
 {
-    let found = table::find(t, who);
-    match found {
-        Some(_) => true,
-        None => false,
-    }
+    table::find(t, who).is_some()
 }
 
 // Whether the parity of a key part is even.
+#[tactic(auto, using(ground::proofs::Std::words), unfolding(crate::specs::Refusals::even_part))]
 pub fn is_even_part(part1: u64, part2: u64) -> bool
     ensures { result ≡ even_part part1 part2 }
 {
-    if !keys::has_odd_parity(part1) {
-        return true;
-    }
-    !keys::has_odd_parity(part2)
+    !keys::has_odd_parity(part1) || !keys::has_odd_parity(part2)
 }
 
 // Whether the parts have another check value.
+#[tactic(auto, using(ground::proofs::Std::words), unfolding(crate::specs::Refusals::check_differs))]
 pub fn is_other_check(part1: u64, part2: u64, check: u64) -> bool
     ensures { result ≡ check_differs part1 part2 check }
 {
-    let value = keys::check_value(keys::combine(part1, part2));
-    value != check
+    keys::check_value(keys::combine(part1, part2)) != check
 }
 
 // Whether a generation isn't the one that follows the current one.
+#[tactic(auto, using(ground::proofs::Std::words), unfolding(crate::specs::Refusals::not_next))]
 pub fn is_not_next(current: u32, new: u32) -> bool
     ensures { result ≡ not_next current new }
 {
@@ -126,69 +120,48 @@ pub fn is_not_next(current: u32, new: u32) -> bool
 }
 
 // The days of a changeover.
+#[tactic(auto, unfolding(crate::specs::Length::length_of))]
 pub fn days_of(l: Option<calendar::CalendarDays>) -> calendar::CalendarDays
     ensures { result ≡ length_of l }
 {
-    match l {
-        Some(n) => n,
-        None => calendar::CalendarDays(30),
-    }
+    l.unwrap_or(calendar::CalendarDays(30))
 }
 
 // Whether a length is given and out of its limits.
+#[tactic(auto, using(ground::proofs::Std::words), unfolding(crate::specs::Refusals::bad_length))]
 pub fn is_bad_length(l: Option<calendar::CalendarDays>) -> bool
     ensures { result ≡ bad_length l }
 {
-    match l {
-        Some(n) => {
-            if n.0 < 1 {
-                return true;
-            }
-            60 < n.0
-        }
-        None => false,
-    }
+    l.is_some_and(|n| n.0 < 1 || 60 < n.0)
 }
 
 // Whether a version floor is one of the two.
+#[tactic(auto, using(ground::proofs::Std::words))]
 pub fn is_floor(floor: u32) -> bool
     ensures { result ≡ either (eqb floor 110) (eqb floor 120) }
 {
-    if floor == 110 {
-        return true;
-    }
-    floor == 120
+    floor == 110 || floor == 120
 }
 
 // Whether each date is real.
 pub fn are_real(dates: &[u32]) -> bool
     ensures { result ≡ all real_date dates.now }
 {
-    let mut i = 0;
-    while i < dates.len() {
-        let d = calendar::Date { yymmdd: dates[i] };
-        if !d.is_real() {
-            return false;
-        }
-        i += 1;
-    }
-    true
+    dates
+        .iter()
+        .all(|&yymmdd| calendar::Date { yymmdd }.is_real())
 }
 
 // Whether the dates rise strictly.
 pub fn are_rising(dates: &[u32]) -> bool
     ensures { result ≡ rising dates.now }
 {
-    let mut i = 0;
-    while i + 1 < dates.len() {
-        let low = calendar::Date { yymmdd: dates[i] };
-        let high = calendar::Date {
-            yymmdd: dates[i + 1],
-        };
+    for w in dates.windows(2) {
+        let low = calendar::Date { yymmdd: w[0] };
+        let high = calendar::Date { yymmdd: w[1] };
         if !low.before(high) {
             return false;
         }
-        i += 1;
     }
     true
 }

@@ -1,20 +1,18 @@
--- What refuses a read and an end alike is asked first, and then the session.
-use Rattle.calls.proofs.Refusing.{end_lent, end_session, end_none}
+-- The conditions are those of the list, in their order; the last one is the session's.
+use mathlib.Core.Path.{refl, ap, ◌∙◌}
+use Rattle.ground.proofs.Bools.{turned}
+use Rattle.session.specs.Ranges.{end_refused}
+use Rattle.refusals.specs.Refusals.{lowest, no_table}
+use Rattle.refusals.specs.Numbers.{number_of}
+use Rattle.refusals.proofs.Found.{held, more}
+use Rattle.calls.specs.Reading.{ending_refusals}
 use Rattle.calls.proofs.ending_refusal.Goals as goal
 
-pub returns-then-refusal-ne0 : goal.returns-then-refusal-ne0
-returns-then-refusal-ne0 c = end_lent _ _ _ c.lent_refusal-refusal.ensures c.if-refusal-ne0.true
-
-pub returns-then-is_end_refused : goal.returns-then-is_end_refused
-returns-then-is_end_refused c =
-    end_session _ _ _ c.lent_refusal-refusal.ensures c.if-refusal-ne0.false
-    c.day-day.ensures
-    c.is_end_refused.ensures
-    c.if-is_end_refused.true
-
 pub returns : goal.returns
+unfolding ending_refusals number_of no_table
 returns c =
-    end_none _ _ _ c.lent_refusal-refusal.ensures c.if-refusal-ne0.false
-    c.day-day.ensures
-    c.is_end_refused.ensures
-    c.if-is_end_refused.false
+    c.first_of.ensures
+    ∙ ap lowest
+    (more refl
+    (more (held _ (turned c.is_table.ensures))
+    (more (held _ (c.is_end_refused.ensures ∙ ap (end_refused c.args.s) c.day-day.ensures)) refl)))

@@ -9,7 +9,7 @@ pub returns : goal.returns
 unfolding adding_by refusal_of left_by
 returns c =
     let k = c.add.ensures in
-    let who = c.fixed25.ensures in
+    let who = c.fixed.ensures in
     let types = c.types_by.ensures in
     let length = c.length_by.ensures in
     add_made (rw (← who, ← types, ← length) (c.code.ensures ∙ k.answers, k.leaves))

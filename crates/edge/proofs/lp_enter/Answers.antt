@@ -9,4 +9,4 @@ pub returns : goal.returns
 unfolding entering_by refusal_of left_by
 returns c =
     let k = c.enter.ensures in
-    enter_made (rw (← c.fixed25.ensures) (c.code.ensures ∙ k.answers, k.leaves))
+    enter_made (rw (← c.fixed.ensures) (c.code.ensures ∙ k.answers, k.leaves))

@@ -9,4 +9,4 @@ pub returns : goal.returns
 unfolding ordering_by refusal_of left_by
 returns c =
     let k = c.order.ensures in
-    order_made (rw (← c.fixed25.ensures) (c.code.ensures ∙ k.answers, k.leaves))
+    order_made (rw (← c.fixed.ensures) (c.code.ensures ∙ k.answers, k.leaves))

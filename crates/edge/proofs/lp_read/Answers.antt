@@ -1,8 +1,10 @@
 -- The call below answers for the session that the bytes say.
+use Rattle.edge.specs.Edge.{session_after}
 use Rattle.edge.proofs.Made.{read_made}
 use Rattle.edge.proofs.lp_read.Goals as goal
 
 pub returns : goal.returns
+unfolding session_after
 returns c =
     let k = c.read-a.ensures in read_made _ _ _ _ c.load-s.ensures (k.answers, (k.leaves, k.shows))
     c.put_session.ensures c.packed_answer.ensures

@@ -9,6 +9,6 @@ pub returns : goal.returns
 unfolding setting_by refusal_of left_by
 returns c =
     let k = c.set_up.ensures in
-    let bank = c.fixed25.ensures in
-    let software = c.fixed16.ensures in
+    let bank = c.fixed.ensures in
+    let software = c.fixed-2.ensures in
     set_up_made (rw (← bank, ← software) (c.code.ensures ∙ k.answers, k.leaves))

@@ -1,26 +1,46 @@
 -- What is left of the dates decides.
-use mathlib.Core.Path.{refl}
-use Prim.Native.Nat.{◌-◌}
+use Rattle.std.proofs.Common.{rules, ℕ, ◌-◌, ◌+◌, ◌≡◌, ◌<◌, length, get_or, drop}
+use mathlib.Core.Path.{sym, ap, ap₂, ◌∙◌}
 use native.Mathlib.Omega.{arith}
+use Rattle.std.specs.Slice.Iter.{windows_rest}
+use Rattle.std.proofs.lemmas.Iterator.{window_more}
+use Rattle.calendar.specs.Dates.{earlier}
+use Rattle.table.specs.Table.{rising}
 use Rattle.refusals.proofs.Dates.{rising_stop, rising_more, rising_done}
 use Rattle.ground.proofs.Bools.{passed, refused}
 use Rattle.refusals.proofs.are_rising.Goals as goal
 
-pub loop-i-init : goal.loop-i-init
-loop-i-init c = (omega arith, refl)
-
 pub returns-then-not-before : goal.returns-then-not-before
 returns-then-not-before c =
-    rising_stop c.args.dates.now c.loop-i.i c.loop-i-test.true c.loop-i.invariant.1
-    (refused c.before-in-loop-i.ensures c.if-not-before.true-raw)
+    let l = c.args.dates.now in
+    let p = c.loop-w.invariant in
+    let h = window_more l c.loop-w.w-iterator c.next.new.self _ _ c.in-Some.is c.next.ensures.steps (search rules) (search rules) (search rules) in
+    let i = length l - length (windows_rest c.loop-w.w-iterator) in
+    let z : i + 0 ≡ i = omega arith in
+    rising_stop l i (omega arith) (p.3 ∙ ap rising p.2)
+    (ap₂ (λ (x y : ℕ). earlier x y) (ap (λ (n : ℕ). get_or l n 0) (sym z) ∙ sym (h.3 0 0 (search rules))) (sym (h.3 1 0 (search rules)))
+    ∙ refused c.before-in-loop-w.ensures c.if-not-before.true-raw)
 
-pub loop-i-preserved : goal.loop-i-preserved
-loop-i-preserved c = (
-  omega arith,
-  rising_more c.args.dates.now
-      c.loop-i.i c.loop-i-test.true
-      c.loop-i.invariant.1 (passed c.before-in-loop-i.ensures c.if-not-before.false-raw),
-)
+pub loop-w-preserved : goal.loop-w-preserved
+loop-w-preserved c =
+    let l = c.args.dates.now in
+    let p = c.loop-w.invariant in
+    let h = window_more l c.loop-w.w-iterator c.next.new.self _ _ c.in-Some.is c.next.ensures.steps (search rules) (search rules) (search rules) in
+    let i = length l - length (windows_rest c.loop-w.w-iterator) in
+    let z : i + 0 ≡ i = omega arith in
+    let next : i + 1 ≡ length l - length (windows_rest c.next.new.self) = omega (arith, h.0, h.2, p.0, p.1) in (
+      search rules,
+      omega (arith, h.0, p.1),
+      h.1,
+      rising_more l i (omega arith) (p.3 ∙ ap rising p.2)
+          (ap₂ (λ (x y : ℕ). earlier x y) (ap (λ (n : ℕ). get_or l n 0) (sym z) ∙ sym (h.3 0 0 (search rules))) (sym (h.3 1 0 (search rules)))
+          ∙ passed c.before-in-loop-w.ensures c.if-not-before.false-raw)
+          ∙ ap rising (ap (λ (n : ℕ). drop n l) next ∙ sym h.1),
+    )
 
 pub returns : goal.returns
-returns c = rising_done c.args.dates.now c.loop-i.i (omega arith) c.loop-i.invariant.1
+returns c =
+    let l = c.args.dates.now in
+    let p = c.loop-w.invariant in
+    let short : length (windows_rest c.loop-w.w-iterator) < 2 = search rules in
+    rising_done l (length l - length (windows_rest c.loop-w.w-iterator)) (omega (arith, short, p.1)) (p.3 ∙ ap rising p.2)

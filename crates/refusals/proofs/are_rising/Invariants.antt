@@ -1,11 +1,10 @@
-use mathlib.Core.Path.{◌≡◌}
-use Prim.Native.Nat.{◌≤◌, ◌-◌}
-use lib.ListN.{length, drop}
+use Rattle.std.proofs.Common.{◌≡◌, ◌-◌, ◌≤◌, length, drop}
+use Rattle.std.specs.Slice.Iter.{windows_size, windows_rest}
 use Rattle.table.specs.Table.{rising}
 use Rattle.refusals.proofs.are_rising.Given as goal
 
-abbrev pub invariant-loop-i : goal.invariant-loop-i
-invariant-loop-i l = (l.i ≤ length l.dates) × (rising l.dates ≡ rising (drop l.i l.dates))
-
-abbrev pub decreases-loop-i : goal.decreases-loop-i
-decreases-loop-i l = length l.dates - l.i
+abbrev pub invariant-loop-w : goal.invariant-loop-w
+invariant-loop-w l =
+    let rest = windows_rest l.w-iterator in
+    (windows_size l.w-iterator ≡ 2) × (length rest ≤ length l.dates) × (rest ≡ drop (length l.dates - length rest) l.dates)
+    × (rising l.dates ≡ rising rest)
