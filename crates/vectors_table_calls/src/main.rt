@@ -388,7 +388,7 @@ fn ends(t: &mut [u8]) {
 
 fn fill(t: &mut [u8]) {
     for i in 0..29u8 {
-        table_calls::add(t, adding(other(b'A' + i / 10, b'0' + i % 10), 791231));
+        let _ = table_calls::add(t, adding(other(b'A' + i / 10, b'0' + i % 10), 791231));
     }
     say_number(b"customers", table::customer_count(t) as u64);
 }
