@@ -8,38 +8,31 @@ fn say(line: &[u8], told: u32) {
     vectors_words::say::words(b"\n");
 }
 
-fn set_up_with(table: &mut [u8], line: &[u8], days: [u32; 208], count: usize) -> u32 {
+// setup BANK SOFTWARE FLOOR K V HOLIDAY…
+pub fn set_up(table: &mut [u8], line: &[u8]) {
     let bank = who_at(line, 1);
     let mut software = [0u8; 16];
     vectors_words::bytes_at(&mut software, line, 2);
-    let n = vectors_words::least(count, 208);
-    edge::lp_set_up(
+    let mut days = [0u32; 208];
+    let n = vectors_words::holidays_at(&mut days, line);
+    let told = edge::lp_set_up(
         table,
         &bank,
         &software,
         small_at(line, 3),
         hex_at(line, 4),
         hex_at(line, 5),
-        &days[0..n],
-    )
-}
-
-// setup BANK SOFTWARE FLOOR K V HOLIDAY…
-pub fn set_up(table: &mut [u8], line: &[u8]) {
-    let h = vectors_words::holidays_at(line);
-    let days = h.days;
-    say(line, set_up_with(table, line, days, h.count));
+        &days[..n],
+    );
+    say(line, told);
 }
 
 // Whether a word is given: '-' stands where it is left out.
 fn is_given(line: &[u8], number: usize) -> u32 {
-    let word = vectors_words::word_at(line, number);
-    if 0 < word.len() {
-        if word[0] == b'-' {
-            return 0;
-        }
+    match vectors_words::word_at(line, number) {
+        [b'-', ..] => 0,
+        _ => 1,
     }
-    1
 }
 
 // add DATE WHO PART1 PART2 CHECK GENERATION TYPES AGREED LEAVE LENGTH
@@ -97,20 +90,14 @@ pub fn begin(table: &mut [u8], session: &mut [u8], h: Hand, line: &[u8]) -> Hand
         hex_at(line, 4),
     );
     say(line, told);
-    let mut after = h;
-    after.length = 0;
-    after.taken = 0;
-    after
+    Hand {
+        length: 0,
+        taken: 0,
+        ..h
+    }
 }
 
 // size COUNT: the session's count of bytes (docs/FORMAT.md, line.size), lowest byte first.
 pub fn size(session: &mut [u8], line: &[u8]) {
-    let n = vectors_words::decimal_at(line, 1);
-    let bytes = [
-        (n % 256) as u8,
-        (n / 256 % 256) as u8,
-        (n / 65536 % 256) as u8,
-        (n / 16777216 % 256) as u8,
-    ];
-    vectors_words::copy_at(session, 57, &bytes);
+    vectors_words::copy_at(session, 57, &small_at(line, 1).to_le_bytes());
 }

@@ -1,34 +1,32 @@
 // The calls that build, each from its line. The rooms of a call are fresh; they are in hand from then on if it gave 0.
 ghost use Rattle.std.specs.Prelude.{◌≤◌};
 
-use crate::hand::{BATCH, Hand, SENT, part, room_of, with_lengths, with_text};
+use crate::hand::{BATCH, Hand, Lengths, SENT, part, room_of, with_text};
 use vectors_words::say::words;
-use vectors_words::{beginning, bytes_at, copy_at, decimal_at, least, small_at};
+use vectors_words::{beginning, bytes_at, copy_at, decimal_at, small_at};
 
 fn length_at(line: &[u8], number: usize) -> usize
     ensures { result ≤ 256 }
 {
-    least(decimal_at(line, number) as usize, 256)
+    (decimal_at(line, number) as usize).min(256)
 }
 
 // A room after a call.
 fn say_room(name: &[u8], room: &[u8]) {
     let fresh = [b'.'; 256];
-    let n = least(room.len(), 256);
-    vectors_words::say::changed(name, &fresh[0..n], room);
+    vectors_words::say::changed(name, beginning(&fresh, room.len()), room);
 }
 
 // A text after a call, at the line's end.
 fn say_text(room: &[u8]) {
     let fresh = [b'.'; 256];
-    let n = least(room.len(), 256);
     words(b", text ");
-    if text::same_bytes(&fresh[0..n], room) {
+    if beginning(&fresh, room.len()) == room {
         words(b"stays\n");
-        return;
+    } else {
+        words(room);
+        words(b"\n");
     }
-    words(room);
-    words(b"\n");
 }
 
 // What an ESI or a VAR gave, and its rooms.
@@ -76,9 +74,8 @@ pub fn esi(own: &mut [u8], h: Hand, line: &[u8]) -> Hand {
     let mut sent = [b'.'; 256];
     let t = length_at(line, 4);
     let s = length_at(line, 5);
-    let now = h.now;
     let told = esi_by(
-        part(own, 0, now.held),
+        part(own, 0, h.now.held),
         line,
         &mut text[0..t],
         &mut sent[0..s],
@@ -92,9 +89,8 @@ pub fn var(own: &mut [u8], h: Hand, line: &[u8]) -> Hand {
     let mut sent = [b'.'; 256];
     let t = length_at(line, 2);
     let s = length_at(line, 3);
-    let now = h.now;
     let told = desk_edge::builder::lp_build_var(
-        part(own, BATCH, now.batch),
+        part(own, BATCH, h.now.batch),
         small_at(line, 1),
         &mut text[0..t],
         &mut sent[0..s],
@@ -102,19 +98,12 @@ pub fn var(own: &mut [u8], h: Hand, line: &[u8]) -> Hand {
     message_after(own, h, line, told, text, t, sent, s)
 }
 
-fn say_number(n: u64) {
-    words(b" ");
-    words(&text::hex_digits(n));
-}
-
 // The maker's numbers, each behind a blank.
-fn say_maker(all: [u64; 4], count: usize) {
+fn say_maker(all: &[u64]) {
     words(b", maker");
-    let n = least(count, 4);
-    let mut i = 0;
-    while i < n {
-        say_number(all[i]);
-        i += 1;
+    for &n in all {
+        words(b" ");
+        words(&text::hex_digits(n));
     }
 }
 
@@ -145,16 +134,19 @@ fn suo_kept(own: &mut [u8], h: Hand, told: u32, text: &[u8], batch: &[u8]) -> Ha
         return h;
     }
     copy_at(own, BATCH, batch);
-    let mut now = h.now;
-    now.batch = batch.len();
-    with_text(own, with_lengths(h, now), text)
+    let after = Hand {
+        now: Lengths {
+            batch: batch.len(),
+            ..h.now
+        },
+        ..h
+    };
+    with_text(own, after, text)
 }
 
 fn say_suo(line: &[u8], told: u32, h: Hand, text: &[u8], batch: &[u8]) {
-    let now = h.now;
-    let maker = now.maker;
     vectors_words::say::told(line, told);
-    say_maker(maker, now.count);
+    say_maker(&h.now.maker[..h.now.count.min(4)]);
     say_room(b"batch", batch);
     say_text(text);
 }
@@ -174,30 +166,26 @@ fn suo_after(
     suo_kept(own, h, told, beginning(&text, t), beginning(&batch, b))
 }
 
-fn suo_with(own: &mut [u8], h: Hand, line: &[u8], numbers: [u64; 4]) -> Hand {
-    let mut text = [b'.'; 256];
-    let mut batch = [b'.'; 256];
-    let mut maker = numbers;
-    let t = length_at(line, 6);
-    let b = length_at(line, 7);
-    let mut now = h.now;
-    let n = least(now.count, 4);
-    let told = suo_by(
-        part(own, 0, now.held),
-        &mut maker[0..n],
-        line,
-        &mut text[0..t],
-        &mut batch[0..b],
-    );
-    now.maker = maker;
-    suo_after(own, with_lengths(h, now), line, told, text, t, batch, b)
-}
-
 // suo CLOCK SOFTWARE METHOD STAMP AREA TEXT BATCH
 pub fn suo(own: &mut [u8], h: Hand, line: &[u8]) -> Hand {
-    let now = h.now;
-    let maker = now.maker;
-    suo_with(own, h, line, maker)
+    let mut text = [b'.'; 256];
+    let mut batch = [b'.'; 256];
+    let mut maker = h.now.maker;
+    let t = length_at(line, 6);
+    let b = length_at(line, 7);
+    let n = h.now.count.min(4);
+    let told = suo_by(
+        part(own, 0, h.now.held),
+        &mut maker[..n],
+        line,
+        &mut text[..t],
+        &mut batch[..b],
+    );
+    let after = Hand {
+        now: Lengths { maker, ..h.now },
+        ..h
+    };
+    suo_after(own, after, line, told, text, t, batch, b)
 }
 
 fn record_after(own: &mut [u8], line: &[u8], told: u32, batch: [u8; 256], b: usize) {
@@ -211,9 +199,8 @@ fn record_after(own: &mut [u8], line: &[u8], told: u32, batch: [u8; 256], b: usi
 pub fn record(own: &mut [u8], h: Hand, line: &[u8]) {
     let mut characters = [0u8; 512];
     let n = bytes_at(&mut characters, line, 1);
-    let now = h.now;
     let mut batch = room_of(own, BATCH);
-    let b = least(now.batch, 256);
+    let b = h.now.batch.min(256);
     let told = desk_edge::builder::lp_add_record(&mut batch[0..b], &characters[0..n]);
     record_after(own, line, told, batch, b);
 }

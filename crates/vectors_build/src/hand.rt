@@ -51,12 +51,6 @@ pub fn empty() -> Hand {
     }
 }
 
-pub fn with_lengths(h: Hand, now: Lengths) -> Hand {
-    let mut after = h;
-    after.now = now;
-    after
-}
-
 // So many bytes from a place on.
 pub fn part(own: &[u8], at: usize, n: usize) -> &[u8] {
     beginning(behind(own, at), n)
@@ -71,14 +65,22 @@ pub fn room_of(own: &[u8], at: usize) -> [u8; 256] {
 
 pub fn with_text(own: &mut [u8], h: Hand, said: &[u8]) -> Hand {
     copy_at(own, TEXT, said);
-    let mut now = h.now;
-    now.text = said.len();
-    with_lengths(h, now)
+    Hand {
+        now: Lengths {
+            text: said.len(),
+            ..h.now
+        },
+        ..h
+    }
 }
 
 pub fn with_reply(own: &mut [u8], h: Hand, reply: &[u8]) -> Hand {
     copy_at(own, REPLY, reply);
-    let mut now = h.now;
-    now.reply = reply.len();
-    with_lengths(h, now)
+    Hand {
+        now: Lengths {
+            reply: reply.len(),
+            ..h.now
+        },
+        ..h
+    }
 }

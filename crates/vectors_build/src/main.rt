@@ -20,24 +20,9 @@ fn obey_all(
     file: &mut [u8],
 ) {
     let mut h = hand::empty();
-    let mut at = 0;
-    // Each line has a byte at least, so that they fall.
-    let mut left = script.len();
-    while 0 < left {
-        if script.len() <= at {
-            return;
-        }
-        h = lines::obey(
-            own,
-            kept,
-            table,
-            session,
-            file,
-            h,
-            vectors_words::line_at(script, at),
-        );
-        at = vectors_words::past(script, at, b'\n');
-        left -= 1;
+    for line in script.split_inclusive(|&b| b == b'\n') {
+        let line = vectors_words::without_lf(line);
+        h = lines::obey(own, kept, table, session, file, h, line);
     }
 }
 

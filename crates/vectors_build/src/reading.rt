@@ -1,7 +1,7 @@
 // Reads and ends of the file in hand at the bank, and the replies' lines.
 use crate::hand::{Hand, part};
-use vectors_words::least;
 use vectors_words::say::words;
+use vectors_words::{beginning, behind};
 
 // How far it came: what is in hand, and the last call's refusal and whether it said finished.
 #[derive(Clone, Copy)]
@@ -49,10 +49,8 @@ fn call(
     if asked.ending {
         return edge::lp_end(table, session, room);
     }
-    let end = least(h.length, file.len());
-    let from = least(h.taken, end);
-    let to = from + least(asked.cut, end - from);
-    edge::lp_read(table, session, &file[from..to], room)
+    let left = behind(beginning(file, h.length), h.taken);
+    edge::lp_read(table, session, beginning(left, asked.cut), room)
 }
 
 // The reply, if there is one, is in hand from then on.
@@ -61,7 +59,7 @@ fn replied(own: &mut [u8], h: Hand, room: [u8; 317], length: usize) -> Hand {
         return h;
     }
     say_reply(&room, h.taken);
-    crate::hand::with_reply(own, h, vectors_words::beginning(&room, length))
+    crate::hand::with_reply(own, h, beginning(&room, length))
 }
 
 fn turn(
@@ -74,8 +72,10 @@ fn turn(
 ) -> Turned {
     let mut room = [0u8; 317];
     let told = call(table, session, file, h, asked, &mut room);
-    let mut after = h;
-    after.taken = std::num::wrapping_add_usize(h.taken, (told % 1099511627776) as usize);
+    let after = Hand {
+        taken: h.taken.wrapping_add((told % 1099511627776) as usize),
+        ..h
+    };
     Turned {
         hand: replied(own, after, room, (told / 1099511627776 % 65536) as usize),
         refusal: (told / 144115188075855872) as u32,
@@ -84,20 +84,10 @@ fn turn(
 }
 
 fn is_over(asked: Asked, r: Turned) -> bool {
-    if r.finished {
-        return true;
-    }
-    if r.refusal != 0 {
-        return true;
-    }
-    if asked.ending {
-        return false;
-    }
-    let h = r.hand;
-    h.length <= h.taken
+    r.finished || r.refusal != 0 || !asked.ending && r.hand.length <= r.hand.taken
 }
 
-// Calls until one says finished or is refused, or all is taken. The turns fall, since a loop has to end.
+// Calls until one says finished or is refused, or all is taken. The turns are counted, since a loop has to end.
 fn turns_of(
     own: &mut [u8],
     table: &mut [u8],
@@ -111,14 +101,11 @@ fn turns_of(
         refusal: 0,
         finished: false,
     };
-    let mut turns: u32 = 100000;
-    while 0 < turns {
+    for _ in 0..100000 {
         if is_over(asked, r) {
-            return r;
+            break;
         }
-        let was = r.hand;
-        r = turn(own, table, session, file, was, asked);
-        turns -= 1;
+        r = turn(own, table, session, file, r.hand, asked);
     }
     r
 }
@@ -134,12 +121,11 @@ pub fn calls(
     line: &[u8],
 ) -> Hand {
     let r = turns_of(own, table, session, file, h, asked);
-    let after = r.hand;
     vectors_words::say::told(line, r.refusal);
-    numbered(b", taken ", after.taken);
+    numbered(b", taken ", r.hand.taken);
     if r.finished {
         words(b", finished");
     }
     words(b"\n");
-    after
+    r.hand
 }

@@ -11,16 +11,8 @@ mod say;
 // The lines of a script, one after the other.
 fn obey_all(script: &[u8], t: &mut [u8], kept: &mut [u8], file: &mut [u8]) {
     let mut hand = lines::empty_hand();
-    let mut at = 0;
-    // Each line has a byte at least, so that they fall.
-    let mut left = script.len();
-    while 0 < left {
-        if script.len() <= at {
-            return;
-        }
-        hand = lines::obey(t, kept, file, hand, vectors_words::line_at(script, at));
-        at = vectors_words::past(script, at, b'\n');
-        left -= 1;
+    for line in script.split_inclusive(|&b| b == b'\n') {
+        hand = lines::obey(t, kept, file, hand, vectors_words::without_lf(line));
     }
 }
 

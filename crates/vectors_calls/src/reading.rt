@@ -1,5 +1,5 @@
 // Openings, reads and ends on the session in hand.
-use vectors_words::{least, small_at};
+use vectors_words::{beginning, behind, small_at};
 
 // What is in hand: a session, and of the file how many bytes there are and how many were taken.
 #[derive(Clone, Copy)]
@@ -9,22 +9,11 @@ pub struct Hand {
     pub taken: usize,
 }
 
-// What a line asks for: a whole file from its first byte on, or one call;
-// ends, or reads of so many bytes at most; with that room; so much of each reply is shown.
+// A read of so many bytes at most, or an end, each with that room for a reply.
 #[derive(Clone, Copy)]
-pub struct Asked {
-    pub whole: bool,
-    pub ending: bool,
-    pub most: usize,
-    pub room: usize,
-    pub shown: usize,
-}
-
-// How far it came: what is in hand, and whether it is over.
-#[derive(Drop)]
-struct Turned {
-    hand: Hand,
-    over: bool,
+pub enum Call {
+    Read { most: usize, room: usize },
+    End { room: usize },
 }
 
 // open DATE TIME TYPE CLOCK; an opening that is refused leaves the session in hand.
@@ -40,91 +29,79 @@ pub fn open(t: &mut [u8], h: Hand, line: &[u8]) -> Hand {
     let a = calls::open(t, o);
     crate::say::answered(line, a.refusal);
     crate::say::table(t);
-    let mut after = h;
-    after.taken = 0;
-    if a.refusal == 0 {
-        let s = a.session;
-        after.session = s;
+    let session = if a.refusal == 0 { a.session } else { h.session };
+    Hand {
+        session,
+        taken: 0,
+        ..h
     }
-    after
 }
 
 // One call; a read has the next bytes that are not taken yet.
-fn call(t: &mut [u8], file: &[u8], h: Hand, asked: Asked, buffer: &mut [u8]) -> calls::Answer {
-    let s = h.session;
-    let room = least(asked.room, buffer.len());
-    if asked.ending {
-        return calls::end(t, s, &mut buffer[0..room]);
-    }
-    let end = least(h.length, file.len());
-    let from = least(h.taken, end);
-    let to = from + least(asked.most, end - from);
-    calls::read(t, s, &file[from..to], &mut buffer[0..room])
-}
-
-// What is in hand after a call, and whether a whole file is over with it.
-fn after(h: Hand, asked: Asked, a: calls::Answer) -> Turned {
-    let s = a.session;
-    let mut over = a.finished;
-    if a.refusal != 0 {
-        over = true;
-    }
-    if !asked.ending && a.taken == 0 {
-        over = true;
-    }
-    let taken = std::num::wrapping_add_usize(h.taken, a.taken);
-    Turned {
-        hand: Hand {
-            session: s,
-            length: h.length,
-            taken,
-        },
-        over,
-    }
-}
-
-// Whether a call is told: always, or in a whole file where there is something to tell, so that nothing written hangs on how it was cut.
-fn is_told(asked: Asked, over: bool, length: usize) -> bool {
-    if asked.whole {
-        if length == 0 {
-            return over;
+fn answer_to(
+    t: &mut [u8],
+    file: &[u8],
+    h: Hand,
+    call: Call,
+    buffer: &mut [u8; 400],
+) -> calls::Answer {
+    match call {
+        Call::Read { most, room } => {
+            let left = behind(beginning(file, h.length), h.taken);
+            calls::read(
+                t,
+                h.session,
+                beginning(left, most),
+                &mut buffer[..room.min(400)],
+            )
         }
+        Call::End { room } => calls::end(t, h.session, &mut buffer[..room.min(400)]),
     }
-    true
 }
 
-// One call, and what it answered.
-fn turn(t: &mut [u8], file: &[u8], h: Hand, asked: Asked, line: &[u8]) -> Turned {
-    let mut buffer = [b'.'; 400];
-    let a = call(t, file, h, asked, &mut buffer);
-    let next = after(h, asked, a);
-    let hand = next.hand;
-    if is_told(asked, next.over, a.length) {
-        crate::say::answer(line, a, hand.taken, &buffer, t, asked.shown);
+// What is in hand after a call.
+fn after(h: Hand, a: calls::Answer) -> Hand {
+    Hand {
+        session: a.session,
+        taken: h.taken.wrapping_add(a.taken),
+        ..h
     }
+}
+
+// read N ROOM · end ROOM: one call, and what it answered.
+pub fn once(t: &mut [u8], file: &[u8], h: Hand, asked: Call, line: &[u8]) -> Hand {
+    let mut buffer = [b'.'; 400];
+    let a = answer_to(t, file, h, asked, &mut buffer);
+    let next = after(h, a);
+    crate::say::answer(line, a, next.taken, &buffer, t, 400);
     next
 }
 
-// One call; or reads from the file's first byte on, and ends,
-// until one says finished or is refused. The turns fall, since a loop has to end.
-pub fn calls_of(t: &mut [u8], file: &[u8], h: Hand, first: Asked, line: &[u8]) -> Hand {
-    let mut hand = h;
-    let mut asked = first;
-    let mut turns: u32 = 1;
-    if asked.whole {
-        hand.taken = 0;
-        turns = 10000;
-    }
-    while 0 < turns {
-        if asked.whole {
-            asked.ending = hand.length <= hand.taken;
+// Whether a whole file is over with a call.
+fn is_over(asked: Call, a: calls::Answer) -> bool {
+    a.finished || a.refusal != 0 || matches!(asked, Call::Read { .. }) && a.taken == 0
+}
+
+// run N: reads from the file's first byte on, and ends, until one says finished or is refused. A call is told where there is something to
+// tell, so that nothing written hangs on how the file was cut. The turns are counted, since a loop has to end.
+pub fn run(t: &mut [u8], file: &[u8], h: Hand, most: usize, line: &[u8]) -> Hand {
+    let mut hand = Hand { taken: 0, ..h };
+    for _ in 0..10000 {
+        let asked = if hand.length <= hand.taken {
+            Call::End { room: 400 }
+        } else {
+            Call::Read { most, room: 400 }
+        };
+        let mut buffer = [b'.'; 400];
+        let a = answer_to(t, file, hand, asked, &mut buffer);
+        hand = after(hand, a);
+        let over = is_over(asked, a);
+        if over || a.length != 0 {
+            crate::say::answer(line, a, hand.taken, &buffer, t, 16);
         }
-        let r = turn(t, file, hand, asked, line);
-        hand = r.hand;
-        if r.over {
-            return hand;
+        if over {
+            break;
         }
-        turns -= 1;
     }
     hand
 }

@@ -1,37 +1,28 @@
 // The calls that keep a table, each from its line, with the number of the refusal or 0.
 use vectors_words::{hex_at, holidays_at, small_at, who_at};
 
-// Sets a table up with the first of these holidays.
-fn set_up_with(t: &mut [u8], s: table_calls::Setting, days: [u32; 208], count: usize) -> u32 {
-    let n = vectors_words::least(count, 208);
-    refusals::code(table_calls::set_up(t, s, &days[0..n]))
-}
-
 // setup BANK SOFTWARE FLOOR K V HOLIDAY…
 pub fn set_up(t: &mut [u8], line: &[u8]) -> u32 {
-    let bank = who_at(line, 1);
     let mut software = [0u8; 16];
     vectors_words::bytes_at(&mut software, line, 2);
     let s = table_calls::Setting {
-        bank,
+        bank: who_at(line, 1),
         software,
         floor: small_at(line, 3),
         key: hex_at(line, 4),
         seed: hex_at(line, 5),
     };
-    let h = holidays_at(line);
-    let days = h.days;
-    set_up_with(t, s, days, h.count)
+    let mut days = [0u32; 208];
+    let n = holidays_at(&mut days, line);
+    refusals::code(table_calls::set_up(t, s, &days[..n]))
 }
 
+// A length, or '-' where it is left out.
 fn length_at(line: &[u8], number: usize) -> Option<calendar::CalendarDays> {
-    let word = vectors_words::word_at(line, number);
-    if 0 < word.len() {
-        if word[0] == b'-' {
-            return None;
-        }
+    match vectors_words::word_at(line, number) {
+        [b'-', ..] => None,
+        _ => Some(calendar::CalendarDays(small_at(line, number))),
     }
-    Some(calendar::CalendarDays(small_at(line, number)))
 }
 
 // add DATE WHO P1 P2 CHECK GENERATION TYPES AGREED LEAVE LENGTH

@@ -1,14 +1,12 @@
 // What is written: what each call answered, and sums of the table and of the reply's buffer.
+use vectors_words::beginning;
 use vectors_words::say::words;
-use vectors_words::{beginning, wide};
 
 // A polynomial in 1,000,003 over a prime of 40 bits.
 fn sum(bytes: &[u8]) -> u64 {
     let mut n: u64 = 0;
-    let mut i = 0;
-    while i < bytes.len() {
-        n = (n * 1000003 + wide(bytes[i])) % 1099511627689;
-        i += 1;
+    for &b in bytes {
+        n = (n * 1000003 + u64::from(b)) % 1099511627689;
     }
     n
 }
@@ -31,7 +29,7 @@ pub fn answered(line: &[u8], refusal: u32) {
         words(b": ok");
         return;
     }
-    numbered(b": refused ", refusal as u64);
+    numbered(b": refused ", u64::from(refusal));
 }
 
 // The table's sum, at a line's end.
@@ -58,6 +56,6 @@ pub fn answer(line: &[u8], a: calls::Answer, at: usize, buffer: &[u8], t: &[u8],
     if a.length == 0 {
         return;
     }
-    words(beginning(buffer, vectors_words::least(a.length, shown)));
+    words(beginning(buffer, a.length.min(shown)));
     words(b"\n");
 }

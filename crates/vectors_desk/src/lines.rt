@@ -1,47 +1,7 @@
 // A script's lines, and what each of them does.
 use vectors_words::{
-    beginning, behind, bytes_at, copy_at, decimal_at, is_of, least, text_at, write_over,
+    beginning, behind, bytes_at, copy_at, decimal_at, text_at, word_at, write_over,
 };
-
-const SIZES: u64 = 0x73697A6573;
-
-const OPEN: u64 = 0x6F70656E;
-
-const ENTER: u64 = 0x656E746572;
-
-const VALUES: u64 = 0x76616C756573;
-
-const SENT: u64 = 0x73656E74;
-
-const ESI: u64 = 0x657369;
-
-const PTE: u64 = 0x707465;
-
-const HELD: u64 = 0x68656C64;
-
-const INTO: u64 = 0x696E746F;
-
-const SPOIL: u64 = 0x73706F696C;
-
-const FORGE: u64 = 0x666F726765;
-
-const FIRST: u64 = 0x6669727374;
-
-const CLOSING: u64 = 0x636C6F73696E67;
-
-const REPLY: u64 = 0x7265706C79;
-
-const LONG: u64 = 0x6C6F6E67;
-
-const PUT: u64 = 0x707574;
-
-const OVER: u64 = 0x6F766572;
-
-const WORDS: u64 = 0x776F726473;
-
-const KEEP: u64 = 0x6B656570;
-
-const BACK: u64 = 0x6261636B;
 
 // How many bytes are lent as a desk and for what was sent, and how many characters the reply has.
 #[derive(Clone, Copy)]
@@ -78,61 +38,51 @@ pub fn empty_hand() -> Hand {
 
 // ---- what is lent
 
-fn with_lengths(h: Hand, now: Lengths) -> Hand {
-    let mut after = h;
-    after.now = now;
-    after
+fn with_held(h: Hand, held: usize) -> Hand {
+    Hand {
+        now: Lengths { held, ..h.now },
+        ..h
+    }
 }
 
-fn obey_bytes(held: &mut [u8], sent: &mut [u8], h: Hand, word: u64, line: &[u8]) -> Hand {
-    let mut now = h.now;
-    if word == HELD {
-        now.held = bytes_at(held, line, 1);
-        return with_lengths(h, now);
+fn with_sent(h: Hand, sent: usize) -> Hand {
+    Hand {
+        now: Lengths { sent, ..h.now },
+        ..h
     }
-    if word == INTO {
-        now.sent = bytes_at(sent, line, 1);
-        return with_lengths(h, now);
+}
+
+fn with_reply(h: Hand, reply: usize) -> Hand {
+    Hand {
+        now: Lengths { reply, ..h.now },
+        ..h
     }
-    if word == SPOIL {
-        write_over(held, line);
-        return h;
-    }
-    write_over(sent, line);
-    h
 }
 
 // The two messages stand one behind the other.
-fn obey_message(said: &mut [u8], h: Hand, word: u64, line: &[u8]) -> Hand {
+fn message(said: &mut [u8], at: usize, line: &[u8]) -> usize {
     let m = beginning(text_at(line, 1), 512);
-    let mut after = h;
-    if word == FIRST {
-        copy_at(said, 0, m);
-        after.first = m.len();
-        return after;
-    }
-    copy_at(said, 512, m);
-    after.closing = m.len();
-    after
+    copy_at(said, at, m);
+    m.len()
 }
 
-fn obey_reply(reply: &mut [u8], h: Hand, word: u64, line: &[u8]) -> Hand {
+fn obey_reply(reply: &mut [u8], h: Hand, line: &[u8]) -> Hand {
     let n = decimal_at(line, 1) as usize;
-    if word == PUT {
-        copy_at(reply, n, text_at(line, 2));
-        return h;
+    match word_at(line, 0) {
+        b"put" => {
+            copy_at(reply, n, text_at(line, 2));
+            h
+        }
+        b"over" => {
+            write_over(reply, line);
+            h
+        }
+        b"reply" => {
+            text::pad(reply, text_at(line, 2));
+            with_reply(h, n)
+        }
+        _ => with_reply(h, n),
     }
-    if word == OVER {
-        write_over(reply, line);
-        return h;
-    }
-    let mut now = h.now;
-    now.reply = n;
-    if word == REPLY {
-        text::pad(reply, text_at(line, 2));
-        return with_lengths(h, now);
-    }
-    with_lengths(h, now)
 }
 
 // ---- what is kept: a desk, what was sent and a reply, one behind the other
@@ -141,78 +91,49 @@ fn keep(held: &[u8], sent: &[u8], reply: &[u8], kept: &mut [u8], h: Hand) -> Han
     copy_at(kept, 0, held);
     copy_at(kept, 128, sent);
     copy_at(kept, 256, reply);
-    let now = h.now;
-    let mut after = h;
-    after.kept = now;
-    after
+    Hand { kept: h.now, ..h }
 }
 
 fn back(held: &mut [u8], sent: &mut [u8], reply: &mut [u8], kept: &[u8], h: Hand) -> Hand {
     text::copy(held, kept);
     text::copy(sent, behind(kept, 128));
     text::copy(reply, behind(kept, 256));
-    let was = h.kept;
-    with_lengths(h, was)
+    Hand { now: h.kept, ..h }
 }
 
 // ---- calls
 
 fn obey_sent(sent: &mut [u8], said: &[u8], h: Hand, line: &[u8]) {
-    let now = h.now;
-    let n = least(now.sent, sent.len());
+    let n = h.now.sent.min(sent.len());
     let first = beginning(said, h.first);
     let closing = beginning(behind(said, 512), h.closing);
-    vectors_desks::sent(first, closing, &mut sent[0..n], line);
+    vectors_desks::sent(first, closing, &mut sent[..n], line);
 }
 
-fn obey_check(held: &mut [u8], sent: &[u8], reply: &[u8], h: Hand, word: u64, line: &[u8]) {
-    let now = h.now;
-    let n = least(now.held, held.len());
-    let sent = beginning(sent, now.sent);
-    let reply = beginning(reply, now.reply);
-    vectors_desks::check(word == PTE, &mut held[0..n], sent, reply, h.words, line);
+fn obey_check(pte: bool, held: &mut [u8], sent: &[u8], reply: &[u8], h: Hand, line: &[u8]) {
+    let n = h.now.held.min(held.len());
+    let sent = beginning(sent, h.now.sent);
+    let reply = beginning(reply, h.now.reply);
+    vectors_desks::check(pte, &mut held[..n], sent, reply, h.words, line);
 }
 
-fn obey_keys(held: &mut [u8], h: Hand, word: u64, line: &[u8]) {
-    let now = h.now;
-    let n = least(now.held, held.len());
-    if word == OPEN {
-        vectors_desks::open(&mut held[0..n], line);
-        return;
+fn obey_keys(held: &mut [u8], line: &[u8]) {
+    match word_at(line, 0) {
+        b"open" => vectors_desks::open(held, line),
+        b"enter" => vectors_desks::enter(held, line),
+        _ => vectors_desks::values(held, line),
     }
-    if word == ENTER {
-        vectors_desks::enter(&mut held[0..n], line);
-        return;
-    }
-    vectors_desks::values(&held[0..n], line);
 }
 
 // ---- any line
 
 fn sizes(line: &[u8]) {
     vectors_words::say::told(line, desk_edge::lp_held_size());
-    vectors_words::say::words(b" ");
-    io::print_decimal(1, desk_edge::lp_sent_size() as u64);
+    vectors_words::say::numbers(&[desk_edge::lp_sent_size()]);
     vectors_words::say::words(b"\n");
 }
 
-// A line that tells how many words are lent, or the sizes; any other is a comment, which is written as it is.
-fn obey_rest(h: Hand, word: u64, line: &[u8]) -> Hand {
-    let mut after = h;
-    if word == WORDS {
-        after.words = decimal_at(line, 1) as usize;
-        return after;
-    }
-    if word == SIZES {
-        sizes(line);
-        return after;
-    }
-    vectors_words::say::words(line);
-    vectors_words::say::words(b"\n");
-    after
-}
-
-// Does what a line says.
+// Does what a line says; any other line is a comment, which is written as it is.
 pub fn obey(
     held: &mut [u8],
     sent: &mut [u8],
@@ -222,33 +143,44 @@ pub fn obey(
     h: Hand,
     line: &[u8],
 ) -> Hand {
-    let word = vectors_words::named(line);
-    if is_of(word, HELD, INTO, SPOIL, FORGE) {
-        return obey_bytes(held, sent, h, word, line);
+    match word_at(line, 0) {
+        b"held" => return with_held(h, bytes_at(held, line, 1)),
+        b"into" => return with_sent(h, bytes_at(sent, line, 1)),
+        b"spoil" => write_over(held, line),
+        b"forge" => write_over(sent, line),
+        b"reply" | b"long" | b"put" | b"over" => return obey_reply(reply, h, line),
+        b"first" => {
+            return Hand {
+                first: message(said, 0, line),
+                ..h
+            };
+        }
+        b"closing" => {
+            return Hand {
+                closing: message(said, 512, line),
+                ..h
+            };
+        }
+        b"words" => {
+            return Hand {
+                words: decimal_at(line, 1) as usize,
+                ..h
+            };
+        }
+        b"keep" => return keep(held, sent, reply, kept, h),
+        b"back" => return back(held, sent, reply, kept, h),
+        b"open" | b"enter" | b"values" => {
+            let n = h.now.held.min(held.len());
+            obey_keys(&mut held[..n], line);
+        }
+        b"esi" => obey_check(false, held, sent, reply, h, line),
+        b"pte" => obey_check(true, held, sent, reply, h, line),
+        b"sent" => obey_sent(sent, said, h, line),
+        b"sizes" => sizes(line),
+        _ => {
+            vectors_words::say::words(line);
+            vectors_words::say::words(b"\n");
+        }
     }
-    if is_of(word, REPLY, LONG, PUT, OVER) {
-        return obey_reply(reply, h, word, line);
-    }
-    if is_of(word, FIRST, CLOSING, FIRST, CLOSING) {
-        return obey_message(said, h, word, line);
-    }
-    if word == KEEP {
-        return keep(held, sent, reply, kept, h);
-    }
-    if word == BACK {
-        return back(held, sent, reply, kept, h);
-    }
-    if is_of(word, OPEN, ENTER, VALUES, OPEN) {
-        obey_keys(held, h, word, line);
-        return h;
-    }
-    if is_of(word, ESI, PTE, ESI, PTE) {
-        obey_check(held, sent, reply, h, word, line);
-        return h;
-    }
-    if word == SENT {
-        obey_sent(sent, said, h, line);
-        return h;
-    }
-    obey_rest(h, word, line)
+    h
 }

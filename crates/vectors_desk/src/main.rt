@@ -15,24 +15,9 @@ fn obey_all(
     kept: &mut [u8],
 ) {
     let mut hand = lines::empty_hand();
-    let mut at = 0;
-    // Each line has a byte at least, so that they fall.
-    let mut left = script.len();
-    while 0 < left {
-        if script.len() <= at {
-            return;
-        }
-        hand = lines::obey(
-            held,
-            sent,
-            reply,
-            said,
-            kept,
-            hand,
-            vectors_words::line_at(script, at),
-        );
-        at = vectors_words::past(script, at, b'\n');
-        left -= 1;
+    for line in script.split_inclusive(|&b| b == b'\n') {
+        let line = vectors_words::without_lf(line);
+        hand = lines::obey(held, sent, reply, said, kept, hand, line);
     }
 }
 

@@ -2,7 +2,7 @@
 
 #![tactic(auto)]
 
-use vectors_words::{bytes_at, check_at, hex_at, least, small_at};
+use vectors_words::{beginning, bytes_at, check_at, hex_at, small_at};
 
 // The bytes before a call.
 fn copy_of(bytes: &[u8]) -> [u8; 128] {
@@ -13,15 +13,8 @@ fn copy_of(bytes: &[u8]) -> [u8; 128] {
 
 // How a desk's bytes, or those of what was sent, are after a call.
 fn say_changed(name: &[u8], was: [u8; 128], is: &[u8]) {
-    let n = least(is.len(), 128);
-    vectors_words::say::changed(name, &was[0..n], is);
+    vectors_words::say::changed(name, beginning(&was, is.len()), is);
     vectors_words::say::words(b"\n");
-}
-
-// So many of the numbers lent.
-fn say_numbers(all: [u32; 8], count: usize) {
-    let n = least(count, 8);
-    vectors_words::say::numbers(&all[0..n]);
 }
 
 // open OWN BANK PART1 PART2 CHECK GENERATION
@@ -61,11 +54,11 @@ pub fn enter(held: &mut [u8], line: &[u8]) {
 // values N: into so many numbers, each of them 7 before.
 pub fn values(held: &[u8], line: &[u8]) {
     let mut values = [7u32; 8];
-    let n = least(vectors_words::decimal_at(line, 1) as usize, 8);
+    let n = (vectors_words::decimal_at(line, 1) as usize).min(8);
     let told = desk_edge::lp_held_values(held, &mut values[0..n]);
     vectors_words::say::told(line, told);
     vectors_words::say::words(b", values");
-    say_numbers(values, n);
+    vectors_words::say::numbers(&values[..n]);
     vectors_words::say::words(b"\n");
 }
 
@@ -78,19 +71,20 @@ pub fn sent(first: &[u8], closing: &[u8], sent: &mut [u8], line: &[u8]) {
 
 fn checked(pte: bool, held: &mut [u8], sent: &[u8], reply: &[u8], word: &mut [u32]) -> u32 {
     if pte {
-        return desk_edge::lp_check_pte(held, sent, reply, word);
+        desk_edge::lp_check_pte(held, sent, reply, word)
+    } else {
+        desk_edge::lp_check_esi(held, sent, reply, word)
     }
-    desk_edge::lp_check_esi(held, sent, reply, word)
 }
 
 // esi, pte: so many words are lent, each of them 7 before.
 pub fn check(pte: bool, held: &mut [u8], sent: &[u8], reply: &[u8], words: usize, line: &[u8]) {
     let was = copy_of(held);
     let mut word = [7u32; 8];
-    let n = least(words, 8);
+    let n = words.min(8);
     let told = checked(pte, held, sent, reply, &mut word[0..n]);
     vectors_words::say::told(line, told);
     vectors_words::say::words(b", word");
-    say_numbers(word, n);
+    vectors_words::say::numbers(&word[..n]);
     say_changed(b"held", was, held);
 }

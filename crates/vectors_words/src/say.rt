@@ -4,17 +4,10 @@ pub fn words(bytes: &[u8]) {
     io::write_all(1, bytes);
 }
 
-// A byte as two hex digits.
-fn byte(b: u8) {
-    let digits = text::hex_digits(crate::wide(b));
-    words(&digits[14..]);
-}
-
+// Each byte as two hex digits.
 fn hex(bytes: &[u8]) {
-    let mut i = 0;
-    while i < bytes.len() {
-        byte(bytes[i]);
-        i += 1;
+    for &b in bytes {
+        words(&text::hex_digits(u64::from(b))[14..]);
     }
 }
 
@@ -22,20 +15,14 @@ fn hex(bytes: &[u8]) {
 pub fn told(line: &[u8], n: u32) {
     words(crate::word_at(line, 0));
     words(b": ");
-    io::print_decimal(1, n as u64);
-}
-
-fn number(n: u32) {
-    words(b" ");
-    io::print_decimal(1, n as u64);
+    io::print_decimal(1, u64::from(n));
 }
 
 // The words of a check, each behind a blank.
 pub fn numbers(all: &[u32]) {
-    let mut i = 0;
-    while i < all.len() {
-        number(all[i]);
-        i += 1;
+    for &n in all {
+        words(b" ");
+        io::print_decimal(1, u64::from(n));
     }
 }
 
@@ -43,10 +30,10 @@ pub fn numbers(all: &[u32]) {
 pub fn changed(name: &[u8], was: &[u8], is: &[u8]) {
     words(b", ");
     words(name);
-    if text::same_bytes(was, is) {
+    if was == is {
         words(b" stays");
-        return;
+    } else {
+        words(b" ");
+        hex(is);
     }
-    words(b" ");
-    hex(is);
 }

@@ -1,6 +1,0 @@
--- The lines still to come fall, and no line changes a buffer's length.
-use mathlib.Core.Path.{refl}
-use Rattle.vectors_desk.proofs.obey_all.Goals as goal
-
-pub loop-left-init : goal.loop-left-init
-loop-left-init c = (refl, refl, refl, refl, refl)
