@@ -111,7 +111,7 @@ fn loaded_for(
 // The file that the replies are about, or what is the matter.
 fn file_of(rt: &HostRuntime, path: &[u8], d: &[u8], r: &[u8], asked: u64) -> Result<u64, Told> {
     if asked != 0 {
-        if replies::next_of(d, asked, 0, 0) < replies::NONE {
+        if replies::next_of(d, asked, None, 0).is_some() {
             return Ok(asked);
         }
         cli_beside::tell(
@@ -122,8 +122,7 @@ fn file_of(rt: &HostRuntime, path: &[u8], d: &[u8], r: &[u8], asked: u64) -> Res
         );
         return Err(Told);
     }
-    let file = replies::file_of(d, r);
-    if file == 0 {
+    let Some(file) = replies::file_of(d, r) else {
         cli_beside::tell(
             rt,
             Program::Bureau,
@@ -131,7 +130,7 @@ fn file_of(rt: &HostRuntime, path: &[u8], d: &[u8], r: &[u8], asked: u64) -> Res
             b"it can't be told which file these replies answer: name its NUMBER, 'show' lists those that wait\n",
         );
         return Err(Told);
-    }
+    };
     Ok(file)
 }
 
@@ -249,14 +248,13 @@ fn one_line(
     if line.is_empty() {
         return Ok(before);
     }
-    let i = replies::answered_by(d, file, line, before.from);
-    if replies::NONE <= i {
+    let Some(i) = replies::answered_by(d, file, line, before.from) else {
         words::stray(out, file, line)?;
         return Ok(Progress {
-            from: before.from,
             is_well: false,
+            ..before
         });
-    }
+    };
     one_reply(out, d, seen, line, i, before)
 }
 
@@ -331,7 +329,9 @@ fn tell_key(out: &mut Growing, before: &desk::Keys, now: &desk::Keys) -> io::Res
 // What the bank said of the file's ESI, in these replies or before. After an E it read nothing more; but an E that doesn't pass may be
 // anyone's, and who believes it may send twice what was accepted.
 fn esi_word(d: &[u8], seen: &[u8; 128], file: u64) -> EsiWord {
-    let i = replies::next_of(d, file, bureau_file::ESI, 0);
+    let Some(i) = replies::next_of(d, file, Some(bureau_file::ESI), 0) else {
+        return EsiWord::NoRefusal;
+    };
     let Some(&said) = seen.get(i) else {
         return EsiWord::NoRefusal;
     };

@@ -1,132 +1,100 @@
 // Which message of the desk a reply answers: the one with its stamp; and where it has none, the next of its file.
 
-// No entry.
-pub const NONE: usize = 128;
+// How many entries a desk has room for.
+const ENTRIES: usize = 128;
 
-// The kind of message that a reply answers, by its first characters; 0 where they are no reply's.
-fn kind_of(line: &[u8]) -> u8 {
-    if line.len() < 5 {
-        return 0;
+// The kind of message that a reply answers, by its first characters; none where they are no reply's.
+fn kind_of(line: &[u8]) -> Option<u8> {
+    match line {
+        [b'>', b'>', b'E', b'S', b'I', ..] => Some(bureau_file::ESI),
+        [b'>', b'>', b'P', b'T', b'E', ..] => Some(bureau_file::BATCH),
+        _ => None,
     }
-    if text::same_bytes(&line[0..5], b">>ESI") {
-        return bureau_file::ESI;
-    }
-    if text::same_bytes(&line[0..5], b">>PTE") {
-        return bureau_file::BATCH;
-    }
-    0
 }
 
 // The stamp that a reply repeats; zeros where it is too short for one.
 fn stamp_in(line: &[u8]) -> [u8; 15] {
     let mut stamp = [0u8; 15];
-    if line.len() < 102 {
-        return stamp;
+    if let Some(said) = line.get(87..102) {
+        text::copy(&mut stamp, said);
     }
-    text::copy(&mut stamp, &line[87..102]);
     stamp
 }
 
-// Whether an entry is of that file, or of any where it is 0, and of that kind, or of any.
-fn is_of(d: &[u8], i: usize, file: u64, kind: u8) -> bool {
+// Whether an entry is of that file, or of any where none is named, and of that kind, or of any.
+fn is_of(d: &[u8], i: usize, file: Option<u64>, kind: Option<u8>) -> bool {
     let own = bureau_file::file_of(d, i);
-    if own == 0 {
-        return false;
-    }
-    if file != 0 && own != file {
-        return false;
-    }
-    kind == 0 || bureau_file::kind_of(d, i) == kind
+    let own_kind = bureau_file::kind_of(d, i);
+    own != 0 && file.unwrap_or(own) == own && kind.unwrap_or(own_kind) == own_kind
 }
 
 fn has_stamp(d: &[u8], i: usize, stamp: [u8; 15]) -> bool {
-    let own = bureau_file::stamp_of(d, i);
-    text::same_bytes(&own, &stamp)
+    bureau_file::stamp_of(d, i) == stamp
 }
 
 // The entry of a file with that kind and stamp.
-fn by_stamp(d: &[u8], file: u64, kind: u8, stamp: [u8; 15]) -> usize {
-    for i in 0..NONE {
-        if is_of(d, i, file, kind) && has_stamp(d, i, stamp) {
-            return i;
-        }
-    }
-    NONE
+fn by_stamp(d: &[u8], file: Option<u64>, kind: Option<u8>, stamp: [u8; 15]) -> Option<usize> {
+    (0..ENTRIES).find(|&i| is_of(d, i, file, kind) && has_stamp(d, i, stamp))
 }
 
 // The next entry of a file with that kind, from a place on.
-pub fn next_of(d: &[u8], file: u64, kind: u8, from: usize) -> usize {
-    for i in from..NONE {
-        if is_of(d, i, file, kind) {
-            return i;
-        }
-    }
-    NONE
+pub fn next_of(d: &[u8], file: u64, kind: Option<u8>, from: usize) -> Option<usize> {
+    (from..ENTRIES).find(|&i| is_of(d, i, Some(file), kind))
 }
 
 // Data outside a batch: its reply answers no message.
 fn is_outside(line: &[u8]) -> bool {
-    if line.len() < 16 {
-        return false;
+    match line.get(11..16) {
+        Some(said) => text::same_bytes(said, b"E1023"),
+        None => false,
     }
-    text::same_bytes(&line[11..16], b"E1023")
 }
 
 // The entry of a file that a reply answers; those before `from` were answered by replies before it.
-pub fn answered_by(d: &[u8], file: u64, line: &[u8], from: usize) -> usize {
+pub fn answered_by(d: &[u8], file: u64, line: &[u8], from: usize) -> Option<usize> {
     if is_outside(line) {
-        return NONE;
+        return None;
     }
     let kind = kind_of(line);
-    let i = by_stamp(d, file, kind, stamp_in(line));
-    if i < NONE {
-        return i;
+    match by_stamp(d, Some(file), kind, stamp_in(line)) {
+        Some(i) => Some(i),
+        None => next_of(d, file, kind, from),
     }
-    next_of(d, file, kind, from)
 }
 
 // ---- whose replies they are
 
-// The file of the first reply whose stamp was sent; 0 where there is none.
-fn file_by_stamps(d: &[u8], r: &[u8]) -> u64 {
-    for line in r.split(|&b| b == b'\n') {
-        let file = file_by_stamp(d, line);
-        if file != 0 {
-            return file;
-        }
-    }
-    0
+// The file of the first reply whose stamp was sent.
+fn file_by_stamps(d: &[u8], r: &[u8]) -> Option<u64> {
+    r.split(|&b| b == b'\n')
+        .find_map(|line| file_by_stamp(d, line))
 }
 
-// The file of the message whose stamp a reply repeats; 0 for none.
-fn file_by_stamp(d: &[u8], line: &[u8]) -> u64 {
-    let i = by_stamp(d, 0, kind_of(line), stamp_in(line));
-    if i < NONE {
-        return bureau_file::file_of(d, i);
-    }
-    0
+// The file of the message whose stamp a reply repeats.
+fn file_by_stamp(d: &[u8], line: &[u8]) -> Option<u64> {
+    let i = by_stamp(d, None, kind_of(line), stamp_in(line))?;
+    Some(bureau_file::file_of(d, i))
 }
 
-// The one file that waits; 0 where there is none, or more than one.
-fn lone_file(d: &[u8]) -> u64 {
-    let mut file = 0;
-    for i in 0..NONE {
+// The one file that waits; none where there is more than one.
+fn lone_file(d: &[u8]) -> Option<u64> {
+    let mut lone = None;
+    for i in 0..ENTRIES {
         let own = bureau_file::file_of(d, i);
         if own != 0 && !bureau_file::is_answered(d, i) {
-            if file != 0 && file != own {
-                return 0;
+            if lone.unwrap_or(own) != own {
+                return None;
             }
-            file = own;
+            lone = Some(own);
         }
     }
-    file
+    lone
 }
 
-// The file that replies answer, where no number is given; 0 where it can't be told.
-pub fn file_of(d: &[u8], r: &[u8]) -> u64 {
-    let file = file_by_stamps(d, r);
-    if file != 0 {
-        return file;
+// The file that replies answer, where no number is given, if it can be told.
+pub fn file_of(d: &[u8], r: &[u8]) -> Option<u64> {
+    match file_by_stamps(d, r) {
+        Some(file) => Some(file),
+        None => lone_file(d),
     }
-    lone_file(d)
 }

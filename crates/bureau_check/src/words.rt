@@ -84,10 +84,7 @@ fn finding(out: &mut Growing, code: u32, field: u32) -> io::Result<()> {
 
 // 15 and 17 are the one-time key and the checksum, which a reply that repeats no message leaves blank.
 fn is_unsigned(field: u32) -> bool {
-    if field == 150 {
-        return true;
-    }
-    field == 170
+    matches!(field, 150 | 170)
 }
 
 fn advice(code: u32, field: u32) -> &'static [u8] {

@@ -23,57 +23,39 @@ pub struct Forgotten {
 
 // n bytes from a place on; none where they aren't all there.
 fn part(d: &[u8], at: usize, n: usize) -> &[u8] {
-    if d.len() < n {
-        return &d[..0];
+    match at.checked_add(n) {
+        Some(end) => d.get(at..end).unwrap_or(b""),
+        None => b"",
     }
-    if d.len() - n < at {
-        return &d[..0];
-    }
-    let end = at + n;
-    &d[at..end]
 }
 
 fn byte_at(d: &[u8], at: usize) -> u8 {
-    if d.len() <= at {
-        return 0;
-    }
-    d[at]
+    d.get(at).copied().unwrap_or(0)
 }
 
 // Eight bytes, the lowest first.
 fn number_at(d: &[u8], at: usize) -> u64 {
-    if d.len() < 8 {
-        return 0;
+    match part(d, at, 8).first_chunk::<8>() {
+        Some(bytes) => u64::from_le_bytes(*bytes),
+        None => 0,
     }
-    if d.len() - 8 < at {
-        return 0;
-    }
-    codec::read8(d, at)
 }
 
 fn put_bytes(d: &mut [u8], at: usize, s: &[u8]) {
-    if d.len() < at {
-        return;
+    if let Some(room) = d.get_mut(at..) {
+        text::copy(room, s);
     }
-    text::copy(&mut d[at..], s);
 }
 
 fn put_number(d: &mut [u8], at: usize, n: u64) {
-    if d.len() < 8 {
-        return;
+    if part(d, at, 8).len() == 8 {
+        put_bytes(d, at, &n.to_le_bytes());
     }
-    if d.len() - 8 < at {
-        return;
-    }
-    codec::write8(d, at, n);
 }
 
 // Where an entry begins; past the end where there is none.
 fn entry_at(i: usize) -> usize {
-    if i < ENTRIES {
-        return 256 + 128 * i;
-    }
-    16640
+    if i < ENTRIES { 256 + 128 * i } else { 16640 }
 }
 
 fn in_entry(i: usize, at: usize) -> usize {
@@ -156,89 +138,55 @@ fn is_zero(b: &[u8]) -> bool {
 }
 
 fn is_stamp(b: &[u8]) -> bool {
-    if b.len() != 15 {
-        return false;
-    }
-    text::all_digits(b)
+    b.len() == 15 && text::all_digits(b)
 }
 
 // The bank's word on an entry: nothing while it waits.
 fn is_word(state: u8, letter: u8, code: &[u8]) -> bool {
-    if state == 0 {
-        return letter == 0 && is_zero(code);
+    match state {
+        0 => letter == 0 && is_zero(code),
+        1 => matches!(letter, b'K' | b'E') && text::all_digits(code),
+        _ => false,
     }
-    if state != 1 {
-        return false;
-    }
-    if letter != b'K' {
-        if letter != b'E' {
-            return false;
-        }
-    }
-    text::all_digits(code)
 }
 
 fn is_kind(kind: u8) -> bool {
-    if kind == ESI {
-        return true;
-    }
-    kind == BATCH
+    matches!(kind, ESI | BATCH)
 }
 
 // Whether the 128 bytes of an entry are just what one is written as, of a file that was made.
 fn is_entry(e: &[u8], made: u64) -> bool {
-    let file = number_at(e, 100);
-    if file == 0 {
-        return false;
-    }
-    if made < file {
-        return false;
-    }
-    if !is_stamp(part(e, 52, 15)) || !is_kind(byte_at(e, 108)) {
-        return false;
-    }
-    is_word(byte_at(e, 109), byte_at(e, 110), part(e, 112, 4))
+    (1..=made).contains(&number_at(e, 100))
+        && is_stamp(part(e, 52, 15))
+        && is_kind(byte_at(e, 108))
+        && is_word(byte_at(e, 109), byte_at(e, 110), part(e, 112, 4))
         && byte_at(e, 111) == 0
         && is_zero(part(e, 116, 12))
 }
 
 fn is_entry_there(d: &[u8], i: usize, count: u64) -> bool {
     let e = part(d, entry_at(i), 128);
-    if i as u64 >= count {
-        return is_zero(e);
+    if (i as u64) < count {
+        is_entry(e, files(d))
+    } else {
+        is_zero(e)
     }
-    is_entry(e, files(d))
 }
 
 fn are_entries(d: &[u8]) -> bool {
     let count = entries(d);
-    if 128 < count {
-        return false;
-    }
-    for i in 0..ENTRIES {
-        if !is_entry_there(d, i, count) {
-            return false;
-        }
-    }
-    true
+    count <= 128 && (0..ENTRIES).all(|i| is_entry_there(d, i, count))
 }
 
 fn is_last(stamp: &[u8]) -> bool {
-    if is_zero(stamp) {
-        return true;
-    }
-    is_stamp(stamp)
+    is_zero(stamp) || is_stamp(stamp)
 }
 
 // Whether bytes are a desk's file: no other bytes are ever taken for one.
 pub fn is_desk(d: &[u8]) -> bool {
-    if d.len() != 16640 {
-        return false;
-    }
-    if !text::same_bytes(part(d, 0, 8), b"bureau 1") {
-        return false;
-    }
-    desk_bytes::is_held(part(d, 8, 88))
+    d.len() == 16640
+        && text::same_bytes(part(d, 0, 8), b"bureau 1")
+        && desk_bytes::is_held(part(d, 8, 88))
         && customer::is_sound_name(part(d, 112, 16))
         && is_last(part(d, 128, 15))
         && byte_at(d, 143) == 0
@@ -308,10 +256,7 @@ fn put_entry(d: &mut [u8], i: usize, e: [u8; 128]) {
 
 // An entry that waits goes to place `to`; the next place.
 fn kept_at(d: &mut [u8], i: usize, to: usize) -> usize {
-    if file_of(d, i) == 0 {
-        return to;
-    }
-    if is_answered(d, i) {
+    if file_of(d, i) == 0 || is_answered(d, i) {
         return to;
     }
     let e = entry(d, i);
@@ -346,15 +291,11 @@ fn shift(d: &mut [u8], by: usize) {
 }
 
 // Makes room for that many entries: where there is too little, the oldest are forgotten.
-pub fn make_room(d: &mut [u8], wanted: u64) -> Forgotten {
+pub fn make_room(d: &mut [u8], wanted: u64) -> Option<Forgotten> {
     let count = entries(d);
     let all = count.wrapping_add(wanted);
     if all <= 128 {
-        return Forgotten {
-            count: 0,
-            first: 0,
-            last: 0,
-        };
+        return None;
     }
     let over = all - 128;
     let by = over as usize;
@@ -365,5 +306,5 @@ pub fn make_room(d: &mut [u8], wanted: u64) -> Forgotten {
     };
     shift(d, by);
     put_number(d, 152, count.wrapping_sub(over));
-    forgotten
+    Some(forgotten)
 }

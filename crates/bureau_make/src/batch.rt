@@ -67,10 +67,12 @@ fn put_line(
     crlf: bool,
 ) -> Result<u64, Stopped> {
     let bytes = put(rt, out, file, before, s)?;
-    if crlf {
-        return put(rt, out, file, bytes, b"\r\n");
-    }
-    put(rt, out, file, bytes, b"\n")
+    let end = if crlf {
+        b"\r\n".as_slice()
+    } else {
+        b"\n".as_slice()
+    };
+    put(rt, out, file, bytes, end)
 }
 
 // ---- the file
@@ -82,10 +84,7 @@ fn number(d: &[u8]) -> u64 {
 
 // The request goes into the last message: the bank would read what comes after it under another key.
 fn request_of(o: &Order, k: usize) -> u8 {
-    if k == o.batches {
-        return o.request;
-    }
-    b'0'
+    if k == o.batches { o.request } else { b'0' }
 }
 
 fn put_esi(
@@ -136,26 +135,22 @@ fn finish(o: &Order, d: &mut [u8]) {
 // ---- a batch
 
 fn method(skh: bool) -> [u8; 3] {
-    if skh {
-        return *b"SKH";
-    }
-    *b"SKE"
+    if skh { *b"SKH" } else { *b"SKE" }
 }
 
 fn digested(skh: bool) -> digest::Method {
     if skh {
-        return digest::Method::Skh;
+        digest::Method::Skh
+    } else {
+        digest::Method::Ske
     }
-    digest::Method::Ske
 }
 
 fn given(o: &Order, software: [u8; 16], k: usize) -> build::Given {
-    let method = method(o.skh);
-    let stamp = stamps::stamp(o.day, o.time, k.wrapping_add(1));
     build::Given {
         software,
-        method,
-        stamp,
+        method: method(o.skh),
+        stamp: stamps::stamp(o.day, o.time, k.wrapping_add(1)),
         area: o.area,
     }
 }
@@ -206,12 +201,9 @@ fn put_records(
     is_other(rt, o.desk, &input, out.file())?;
     let way = bureau_records::way_of(b.once, digested(o.skh), o.crlf);
     let copied = copy(rt, &mut input, path, out, file, before, way)?;
-    let suo = b.suo;
     let whole = build::Batch {
-        suo,
-        once: b.once,
-        working: b.working,
         state: copied.state,
+        ..b
     };
     put_var(rt, out, file, o, d, copied.bytes, k, whole)
 }

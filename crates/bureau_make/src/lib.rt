@@ -37,7 +37,7 @@ pub struct Order {
 struct Done {
     number: u64,
     bytes: u64,
-    forgotten: Forgotten,
+    forgotten: Option<Forgotten>,
 }
 
 // ---- words
@@ -223,7 +223,7 @@ fn fill(
 }
 
 // Room for an ESI and the batches.
-fn room_for(d: &mut [u8], batches: usize) -> Forgotten {
+fn room_for(d: &mut [u8], batches: usize) -> Option<Forgotten> {
     bureau_file::drop_answered(d);
     bureau_file::make_room(d, (batches as u64).wrapping_add(1))
 }
@@ -233,7 +233,9 @@ fn room_for(d: &mut [u8], batches: usize) -> Forgotten {
 fn answered(rt: &HostRuntime, done: Result<Done, Stopped>, o: &Order) -> Result<Status, Told> {
     match done {
         Ok(done) => {
-            tell_forgotten(rt, &done.forgotten);
+            if let Some(forgotten) = done.forgotten {
+                tell_forgotten(rt, forgotten);
+            }
             status::served_if(say::is_said(
                 rt,
                 Program::Bureau,
@@ -256,13 +258,8 @@ fn made(rt: &HostRuntime, done: &Done, o: &Order) -> io::Result<()> {
 }
 
 // What had to make room.
-fn tell_forgotten(rt: &HostRuntime, f: &Forgotten) {
-    if f.count == 0 {
-        return;
-    }
-    let count = f.count;
-    let first = f.first;
-    let last = f.last;
+fn tell_forgotten(rt: &HostRuntime, f: Forgotten) {
+    let Forgotten { count, first, last } = f;
     say::begin_line(rt, Program::Bureau);
     let _ = eprint!(rt;
         "the desk has room for 128 messages: the oldest that waited for a reply were forgotten, {count} of file {first}"

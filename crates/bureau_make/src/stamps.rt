@@ -28,20 +28,11 @@ fn is_after(last: [u8; 15], day: u32, time: u32) -> bool {
         yymmdd: number(&last[0..6]),
     };
     let now = calendar::Date { yymmdd: day };
-    if before.before(now) {
-        return true;
-    }
-    if now.before(before) {
-        return false;
-    }
-    number(&last[6..12]) < time
+    before.before(now) || !now.before(before) && number(&last[6..12]) < time
 }
 
 fn number(digits: &[u8]) -> u32 {
-    let Some(n) = cli_words::digits(digits, 6, 6) else {
-        return 0;
-    };
-    n
+    cli_words::digits(digits, 6, 6).unwrap_or(0)
 }
 
 // Whether they come after the last stamp's, or what is the matter.
@@ -64,13 +55,11 @@ pub fn are_later(rt: &HostRuntime, last: [u8; 15], day: u32, time: u32) -> Resul
 
 // The stamp of a file's message: 1 is the ESI.
 pub fn stamp(day: u32, time: u32, k: usize) -> [u8; 15] {
-    let mut d = [0u8; 6];
-    text::write_number(&mut d, day as u64);
-    let mut t = [0u8; 6];
-    text::write_number(&mut t, time as u64);
-    let mut n = [0u8; 3];
-    text::write_number(&mut n, k as u64);
-    [
-        d[0], d[1], d[2], d[3], d[4], d[5], t[0], t[1], t[2], t[3], t[4], t[5], n[0], n[1], n[2],
-    ]
+    let mut stamp = [0u8; 15];
+    let (date, rest) = stamp.split_at_mut(6);
+    let (clock, count) = rest.split_at_mut(6);
+    text::write_number(date, u64::from(day));
+    text::write_number(clock, u64::from(time));
+    text::write_number(count, k as u64);
+    stamp
 }

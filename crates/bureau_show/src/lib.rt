@@ -90,13 +90,7 @@ fn all_waiting(rt: &HostRuntime, d: &[u8]) -> io::Result<()> {
 
 // How many entries have no reply yet that passes.
 fn count_waiting(d: &[u8]) -> u64 {
-    let mut n = 0u64;
-    for i in 0..128 {
-        if is_waiting(d, i) {
-            n = n.wrapping_add(1);
-        }
-    }
-    n
+    (0..128usize).filter(|&i| is_waiting(d, i)).count() as u64
 }
 
 fn messages(rt: &HostRuntime, d: &[u8]) -> io::Result<()> {
