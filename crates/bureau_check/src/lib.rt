@@ -5,6 +5,7 @@
 mod replies;
 mod words;
 
+use bureau_help::Command;
 use cli_held::Held;
 use cli_terminal::options::Words;
 use cli_terminal::program::Program;
@@ -25,7 +26,7 @@ struct Progress {
 // ---- words
 
 pub fn check(rt: &HostRuntime, words: &Words) -> Result<Status, Told> {
-    bureau_help::are_as_many(rt, words, 4, 4, 5)?;
+    bureau_help::are_as_many(rt, words, Command::Check, 4, 5)?;
     words.are_taken(rt, Program::Bureau, b"")?;
     let path = cli_names::of_kept(rt, Program::Bureau, words.word(2), b"DESK")?;
     check_words(rt, words, path.as_slice())

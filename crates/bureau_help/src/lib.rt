@@ -6,27 +6,28 @@ use cli_terminal::program::Program;
 use cli_terminal::say;
 use cli_terminal::status::Told;
 
-// The number of the command that a word names, in the order of the list; 0 for none.
-pub fn command_of(word: &[u8]) -> u32 {
-    if text::same_bytes(word, b"open") {
-        return 1;
+// The commands, in the order of the list.
+#[derive(Clone, Copy, Debug, PartialEq, Eq)]
+pub enum Command {
+    Open,
+    Key,
+    Make,
+    Check,
+    Show,
+    Help,
+}
+
+// The command that a word names.
+pub fn command_of(word: &[u8]) -> Option<Command> {
+    match word {
+        b"open" => Some(Command::Open),
+        b"key" => Some(Command::Key),
+        b"make" => Some(Command::Make),
+        b"check" => Some(Command::Check),
+        b"show" => Some(Command::Show),
+        b"help" => Some(Command::Help),
+        _ => None,
     }
-    if text::same_bytes(word, b"key") {
-        return 2;
-    }
-    if text::same_bytes(word, b"make") {
-        return 3;
-    }
-    if text::same_bytes(word, b"check") {
-        return 4;
-    }
-    if text::same_bytes(word, b"show") {
-        return 5;
-    }
-    if text::same_bytes(word, b"help") {
-        return 6;
-    }
-    0
 }
 
 // The commands' names, for the line that says what was expected.
@@ -40,21 +41,21 @@ pub fn tell_names(rt: &HostRuntime) {
 }
 
 // The words of a command, as the end of a line.
-pub fn words_of(command: u32) -> &'static [u8] {
+pub fn words_of(command: Command) -> &'static [u8] {
     match command {
-        1 =>
+        Command::Open =>
             b"open DESK IDENTITY QUALIFIER BANK BANKQUALIFIER SOFTWARE PART1 PART2 CHECK GENERATION K V\n",
-        2 => b"key DESK PART1 PART2 CHECK GENERATION\n",
-        3 =>
+        Command::Key => b"key DESK PART1 PART2 CHECK GENERATION\n",
+        Command::Make =>
             b"make DESK DATE TIME CLOCK METHOD FILE [RECORDS...] [--ask] [--end] [--crlf] [--area-a]\n",
-        4 => b"check DESK REPLIES [NUMBER]\n",
-        5 => b"show DESK\n",
-        _ => b"help [COMMAND]\n",
+        Command::Check => b"check DESK REPLIES [NUMBER]\n",
+        Command::Show => b"show DESK\n",
+        Command::Help => b"help [COMMAND]\n",
     }
 }
 
 // The same, to standard error.
-pub fn tell_words(rt: &HostRuntime, command: u32) {
+pub fn tell_words(rt: &HostRuntime, command: Command) {
     say::err(rt, words_of(command));
 }
 
@@ -62,7 +63,7 @@ pub fn tell_words(rt: &HostRuntime, command: u32) {
 pub fn are_as_many(
     rt: &HostRuntime,
     words: &Words,
-    command: u32,
+    command: Command,
     low: usize,
     high: usize,
 ) -> Result<(), Told> {
@@ -74,9 +75,10 @@ pub fn are_as_many(
 }
 
 // The help of one command.
-pub fn of(command: u32) -> &'static [u8] {
+pub fn of(command: Command) -> &'static [u8] {
     match command {
-        1 => b"usage: bureau open DESK IDENTITY QUALIFIER BANK BANKQUALIFIER SOFTWARE PART1
+        Command::Open =>
+            b"usage: bureau open DESK IDENTITY QUALIFIER BANK BANKQUALIFIER SOFTWARE PART1
            PART2 CHECK GENERATION K V
 
 Opens a desk: one customer at one bank, with the first transport key.
@@ -145,7 +147,7 @@ typed at '-' is seen on the screen, unless 'stty -echo' comes before and
                 the whole
   --            ends the options, for a word that begins with two dashes
 ",
-        2 => b"usage: bureau key DESK PART1 PART2 CHECK GENERATION
+        Command::Key => b"usage: bureau key DESK PART1 PART2 CHECK GENERATION
 
 Enters the next transport key.
 The key before it is kept too, for replies that are still to come. The working
@@ -179,7 +181,7 @@ after.
                 the whole
   --            ends the options, for a word that begins with two dashes
 ",
-        3 => b"usage: bureau make DESK DATE TIME CLOCK METHOD FILE [RECORDS...] [--ask]
+        Command::Make => b"usage: bureau make DESK DATE TIME CLOCK METHOD FILE [RECORDS...] [--ask]
            [--end] [--crlf] [--area-a]
 
 Makes a file to send: an ESI, and a batch for each RECORDS.
@@ -242,7 +244,7 @@ the screen, unless 'stty -echo' comes before and 'stty echo' after.
                 the whole
   --            ends the options, for a word that begins with two dashes
 ",
-        4 => b"usage: bureau check DESK REPLIES [NUMBER]
+        Command::Check => b"usage: bureau check DESK REPLIES [NUMBER]
 
 Checks what the bank sent back.
 A line for each message of the file that the replies answer: the bank's word,
@@ -266,7 +268,7 @@ The same replies may be checked again.
                 the whole
   --            ends the options, for a word that begins with two dashes
 ",
-        5 => b"usage: bureau show DESK
+        Command::Show => b"usage: bureau show DESK
 
 Shows what a desk holds.
 Keys are shown by their check values, never themselves. Then comes each message
@@ -278,7 +280,7 @@ that still waits for a reply that passes. It may run beside any other command.
                 the whole
   --            ends the options, for a word that begins with two dashes
 ",
-        _ => b"usage: bureau help [COMMAND]
+        Command::Help => b"usage: bureau help [COMMAND]
 
 Prints the help, whole or of one command.
 

@@ -2,6 +2,7 @@
 // command line.
 #![tactic(auto)]
 
+use bureau_help::Command;
 use cli_held::Held;
 use cli_terminal::options::Words;
 use cli_terminal::program::Program;
@@ -49,7 +50,7 @@ fn saved(rt: &HostRuntime, path: &[u8], d: &[u8], h: &Held) -> Result<Status, To
 // ---- open
 
 pub fn open(rt: &HostRuntime, words: &Words) -> Result<Status, Told> {
-    bureau_help::are_as_many(rt, words, 1, 14, 14)?;
+    bureau_help::are_as_many(rt, words, Command::Open, 14, 14)?;
     words.are_taken(rt, Program::Bureau, b"")?;
     let path = cli_names::of_kept(rt, Program::Bureau, words.word(2), b"DESK")?;
     open_words(rt, words, path.as_slice())
@@ -137,7 +138,7 @@ fn open_new(
 // ---- key
 
 pub fn key(rt: &HostRuntime, words: &Words) -> Result<Status, Told> {
-    bureau_help::are_as_many(rt, words, 2, 7, 7)?;
+    bureau_help::are_as_many(rt, words, Command::Key, 7, 7)?;
     words.are_taken(rt, Program::Bureau, b"")?;
     let path = cli_names::of_kept(rt, Program::Bureau, words.word(2), b"DESK")?;
     let parts = asked(

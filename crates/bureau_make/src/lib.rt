@@ -7,6 +7,7 @@ mod stamps;
 
 use batch::Stopped;
 use bureau_file::Forgotten;
+use bureau_help::Command;
 use cli_files::Seen;
 use cli_held::Held;
 use cli_terminal::options::Words;
@@ -43,7 +44,7 @@ struct Done {
 // ---- words
 
 pub fn make(rt: &HostRuntime, words: &Words) -> Result<Status, Told> {
-    bureau_help::are_as_many(rt, words, 3, 8, 71)?;
+    bureau_help::are_as_many(rt, words, Command::Make, 8, 71)?;
     words.are_taken(rt, Program::Bureau, b"--ask --end --crlf --area-a ")?;
     let path = cli_names::of_kept(rt, Program::Bureau, words.word(2), b"DESK")?;
     make_words(rt, words, path.as_slice())

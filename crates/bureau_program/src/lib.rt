@@ -5,20 +5,21 @@
 ghost use Rattle.std.specs.Prelude.{◌<◌};
 ghost use Rattle.std.specs.Process.{exit_status};
 
+use bureau_help::Command;
 use cli_terminal::options::Words;
 use cli_terminal::program::Program;
 use cli_terminal::status::{Status, Told};
 use cli_terminal::{say, status};
 use std::process::ExitCode;
 
-fn served(rt: &HostRuntime, words: &Words, command: u32) -> Result<Status, Told> {
+fn served(rt: &HostRuntime, words: &Words, command: Command) -> Result<Status, Told> {
     match command {
-        1 => bureau_keep::open(rt, words),
-        2 => bureau_keep::key(rt, words),
-        3 => bureau_make::make(rt, words),
-        4 => bureau_check::check(rt, words),
-        5 => bureau_show::show(rt, words),
-        _ => helped(rt, words),
+        Command::Open => bureau_keep::open(rt, words),
+        Command::Key => bureau_keep::key(rt, words),
+        Command::Make => bureau_make::make(rt, words),
+        Command::Check => bureau_check::check(rt, words),
+        Command::Show => bureau_show::show(rt, words),
+        Command::Help => helped(rt, words),
     }
 }
 
@@ -34,35 +35,32 @@ fn shown(rt: &HostRuntime, text: &[u8]) -> Result<Status, Told> {
 
 // `help`, and `help COMMAND`.
 fn helped(rt: &HostRuntime, words: &Words) -> Result<Status, Told> {
-    bureau_help::are_as_many(rt, words, 6, 2, 3)?;
+    bureau_help::are_as_many(rt, words, Command::Help, 2, 3)?;
     if words.count() == 2 {
         return shown(rt, bureau_help::whole());
     }
-    let command = bureau_help::command_of(words.word(2));
-    if command == 0 {
+    let Some(command) = bureau_help::command_of(words.word(2)) else {
         bureau_help::tell_names(rt);
         return Err(Told);
-    }
+    };
     shown(rt, bureau_help::of(command))
 }
 
 // A command, or what was asked in place of one.
 fn of_words(rt: &HostRuntime, words: &Words) -> Result<Status, Told> {
-    let command = bureau_help::command_of(words.word(1));
-    if words.is_given(b"--help") || words.is_given(b"-h") {
-        if command == 0 {
-            return shown(rt, bureau_help::whole());
+    let is_help = words.is_given(b"--help") || words.is_given(b"-h");
+    match bureau_help::command_of(words.word(1)) {
+        Some(command) if is_help => shown(rt, bureau_help::of(command)),
+        Some(command) => served(rt, words, command),
+        None if is_help => shown(rt, bureau_help::whole()),
+        None if words.count_all() == 2 && words.is_given(b"--version") => {
+            shown(rt, bureau_help::version())
         }
-        return shown(rt, bureau_help::of(command));
+        None => {
+            bureau_help::tell_names(rt);
+            Err(Told)
+        }
     }
-    if command != 0 {
-        return served(rt, words, command);
-    }
-    if words.count_all() == 2 && words.is_given(b"--version") {
-        return shown(rt, bureau_help::version());
-    }
-    bureau_help::tell_names(rt);
-    Err(Told)
 }
 
 fn asked(rt: &HostRuntime) -> Result<Status, Told> {

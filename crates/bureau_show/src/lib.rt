@@ -1,6 +1,7 @@
 // The command show: what a desk holds, with check values for keys.
 #![tactic(auto)]
 
+use bureau_help::Command;
 use cli_terminal::options::Words;
 use cli_terminal::program::Program;
 use cli_terminal::status::{Status, Told};
@@ -137,7 +138,7 @@ pub fn is_loaded(rt: &HostRuntime, path: &[u8], d: &mut [u8]) -> Result<(), Told
 }
 
 pub fn show(rt: &HostRuntime, words: &Words) -> Result<Status, Told> {
-    bureau_help::are_as_many(rt, words, 5, 3, 3)?;
+    bureau_help::are_as_many(rt, words, Command::Show, 3, 3)?;
     words.are_taken(rt, Program::Bureau, b"")?;
     let path = cli_names::of(rt, Program::Bureau, words.word(2), b"DESK")?;
     let mut d = [0u8; 16640];
