@@ -1,14 +1,14 @@
 -- A text in parts, from a place on: the part there, and the parts past its end. By induction over the text.
 -- Assumes nothing.
-use mathlib.Core.Path.{◌≡◌, refl, sym, ap, ◌∙◌}
+use mathlib.Core.Path.{◌≡◌, refl, sym, ap, ap₂, ◌∙◌}
 use mathlib.Core.Bool.{Bool, true, false}
 use mathlib.Core.List.{List, [], ◌∷◌, ◌++◌}
-use Prim.Native.Nat.{ℕ, ◌+◌, ◌≤◌, ◌<◌}
+use Prim.Native.Nat.{ℕ, ◌+◌, ◌-◌, ◌≤◌, ◌<◌}
 use native.Mathlib.Nat.{suc-add, not-suc-le-zero}
 use native.Mathlib.Omega.{arith}
 use borrow.Author.Tests.{eq-eqb}
 use lib.Dec.{eqb}
-use lib.ListN.{length, take, drop, length-append, drop_of_length-le}
+use lib.ListN.{length, take, drop, length-append, length-drop, drop_of_length-le}
 use mathlib.Core.List.{append_assoc}
 use mathlib.Core.Bool.{cond}
 use Rattle.std.specs.Prelude.{Some, None}
@@ -16,7 +16,7 @@ use Rattle.std.specs.List.{position, position_or_len}
 use Rattle.std.proofs.lemmas.List.Recursion.{is_position_or_len}
 use Rattle.std.proofs.lemmas.Grind.{common_steps}
 use borrow.Author.Tests.{eqb-true}
-use lib.Seq.{take_all, drop_at, drop-drop}
+use lib.Seq.{take_all, drop_at, drop-drop, drop-append-le}
 use Rattle.ground.specs.Choice.{pick}
 use Rattle.ground.proofs.Choices.{picks}
 use Rattle.cli_words.specs.Parts.{up_to, on_first, ended_by, split_at}
@@ -133,3 +133,32 @@ up_to_split by (x ∷ l) h = go (eqb x by) refl h (up_to_split by l)
     go false e h f =
         ap (◌∷◌ x) (f (omega arith))
         ∙ ap (λ (k : ℕ). x ∷ (up_to by l ++ (by ∷ drop k (x ∷ l)))) (sym (suc-add (length (up_to by l)) 1))
+
+-- ---- the parts from a place on: the one there, and those past its end
+
+part_is : (by : ℕ) (s : List ℕ) (at r : ℕ) → r ≡ at + length (up_to by (drop at s)) → up_to by (drop at s) ≡ take (r - at) (drop at s)
+part_is by s at r e =
+    let n : length (up_to by (drop at s)) ≡ r - at = omega arith in
+    sym (up_to-take by (drop at s)) ∙ ap (λ (k : ℕ). take k (drop at s)) n
+
+ended_at : (by : ℕ) (s : List ℕ) (at : ℕ) → at < length s
+    → ended_by by (drop at s) ≡ up_to by (drop at s) ∷ ended_by by (drop (at + (length (up_to by (drop at s)) + 1)) s)
+ended_at by s at h =
+    step by (drop at s) (rw (length-drop at s) (omega arith))
+    ∙ ap (λ (l : List ℕ). up_to by (drop at s) ∷ ended_by by l) (drop-drop (length (up_to by (drop at s)) + 1) at s)
+
+pub ended_from : (by : ℕ) (s : List ℕ) (at r : ℕ) → at < length s → r ≡ at + length (up_to by (drop at s))
+    → ended_by by (drop at s) ≡ take (r - at) (drop at s) ∷ ended_by by (drop (r + 1) s)
+ended_from by s at r h e =
+    let n : at + (length (up_to by (drop at s)) + 1) ≡ r + 1 = omega arith in
+    ended_at by s at h ∙ ap₂ (λ (p : List ℕ) (k : ℕ). p ∷ ended_by by (drop k s)) (part_is by s at r e) n
+
+-- the same between the bytes `by`
+pub splits_from : (by : ℕ) (s : List ℕ) (at r : ℕ) → at ≤ length s → r ≡ at + length (up_to by (drop at s))
+    → ended_by by (drop at (s ++ (by ∷ []))) ≡ take (r - at) (drop at s) ∷ ended_by by (drop (r + 1) (s ++ (by ∷ [])))
+splits_from by s at r h e =
+    let t : List ℕ = s ++ (by ∷ []) in
+    let u : up_to by (drop at t) ≡ up_to by (drop at s) = ap (up_to by) (drop-append-le at s (by ∷ []) h) ∙ up_to-grows by (drop at s) [] in
+    let n : at + (length (up_to by (drop at t)) + 1) ≡ r + 1 = omega (arith, ap length u) in
+    ended_at by t at (rw (length-append s (by ∷ [])) (omega arith))
+    ∙ ap₂ (λ (p : List ℕ) (k : ℕ). p ∷ ended_by by (drop k t)) (u ∙ part_is by s at r e) n

@@ -7,7 +7,7 @@ use Rattle.ground.proofs.Choices.{picks, skips}
 use Rattle.cli_words.specs.declared.BadLine.{BadLine}
 use Rattle.cli_words.specs.declared.Dates.{Dates}
 use Rattle.cli_words.specs.Parts.{up_to, ended_by}
-use Rattle.cli_words.specs.Forms.{date_of, leading, told}
+use Rattle.cli_words.specs.Forms.{date_of, leading, kept, told}
 use Rattle.cli_words.proofs.Cuts.{ended_more, ended_last}
 
 -- what the lines that are left say, where so many are kept already
@@ -42,11 +42,14 @@ one_more ns left dates count n h s =
 
 -- ---- the end
 
-abbrev pub dated : ℕ → List ℕ → Result Dates BadLine
-dated count dates = Ok (record { count = count; dates = dates })
+abbrev pub dates_of : ℕ → List ℕ → Dates
+dates_of count dates = record { count = count; dates = dates }
 
-abbrev pub no_date : ℕ → Result Dates BadLine
-no_date line = Err (record { line = line })
+abbrev pub dated : ℕ → List ℕ → Result Dates BadLine
+dated count dates = Ok (dates_of count dates)
+
+abbrev pub no_date : ℕ → Dates → Result Dates BadLine
+no_date line before = Err (record { line = line; before = before })
 
 module _
     (ns left : List (Option ℕ)) (dates : List ℕ) (count : ℕ) (h : count ≤ 201) (s : Sofar ns left dates count) (none : leading left ≡ []) where
@@ -56,25 +59,31 @@ module _
   so_many : length (leading ns) ≡ count
   so_many = ap length all_kept ∙ length-take-le count dates (omega (arith, s.long))
 
+  filled : leading ns ++ replicate (201 - length (leading ns)) 0 ≡ dates
+  filled =
+      ap₂ (λ (d : List ℕ) (k : ℕ). d ++ replicate (201 - k) 0) all_kept so_many
+      ∙ ap (λ (d : List ℕ). take count dates ++ d) (sym s.zeros)
+      ∙ take-append-drop count dates
+
+  as_kept : kept (leading ns) ≡ dates_of count dates
+  unfolding kept
+  as_kept = ap₂ dates_of so_many filled
+
 all_good : (ns : List (Option ℕ)) (dates : List ℕ) (count : ℕ) → count ≤ 201 → Sofar ns [] dates count → dated count dates ≡ told ns
 unfolding leading told
 all_good ns dates count h s =
     let m : length (leading ns) ≡ count = so_many ns [] dates count h s refl in
     let n : length ns ≡ count = omega (arith, s.lines) in
-    let d : leading ns ++ replicate (201 - length ns) 0 ≡ dates =
-    ap₂ (λ (d : List ℕ) (k : ℕ). d ++ replicate (201 - k) 0) (all_kept ns [] dates count h s refl) n
-    ∙ ap (λ (d : List ℕ). take count dates ++ d) (sym s.zeros)
-    ∙ take-append-drop count dates in
-    sym (picks _ _ _ (eq-eqb _ _ (m ∙ sym n)) ∙ ap₂ dated n d)
+    sym (picks _ _ _ (eq-eqb _ _ (m ∙ sym n)) ∙ ap (λ (d : Dates). Ok d) (as_kept ns [] dates count h s refl))
 
 pub one_bad : (ns left : List (Option ℕ)) (dates : List ℕ) (count : ℕ) → count ≤ 201 → Sofar ns (None ∷ left) dates count
-    → no_date (count + 1) ≡ told ns
+    → no_date (count + 1) (dates_of count dates) ≡ told ns
 unfolding leading told
 one_bad ns left dates count h s =
     let m : length (leading ns) ≡ count = so_many ns (None ∷ left) dates count h s refl in
     let n : length ns ≡ count + (1 + length left) = omega (arith, s.lines) in
     let g : eqb (length (leading ns)) (length ns) ≡ false = ne_eqb _ _ (λ (e : length (leading ns) ≡ length ns). omega arith) in
-    sym (skips _ _ _ g ∙ ap (λ (k : ℕ). no_date (k + 1)) m)
+    sym (skips _ _ _ g ∙ ap₂ no_date (ap (λ (k : ℕ). k + 1) m) (as_kept ns (None ∷ left) dates count h s refl))
 
 -- ---- the lines that are left
 

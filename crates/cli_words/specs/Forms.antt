@@ -87,12 +87,16 @@ leading [] = []
 leading (None ∷ ns) = []
 leading (Some n ∷ ns) = n ∷ leading ns
 
--- what the lines that are looked at say: their dates, with zeros in the places past them, or the number of the first that is none
+-- dates, with zeros in the places past them
+unfoldable pub kept : List ℕ → Dates
+kept ds = record { count = length ds; dates = ds ++ replicate (201 - length ds) 0 }
+
+-- what the lines that are looked at say: their dates, or the number of the first that is none and the dates before it
 unfoldable pub told : List (Option ℕ) → Result Dates BadLine
 told ns =
     pick (eqb (length (leading ns)) (length ns))
-    (Ok (record { count = length ns; dates = leading ns ++ replicate (201 - length ns) 0 }))
-    (Err (record { line = length (leading ns) + 1 }))
+    (Ok (kept (leading ns)))
+    (Err (record { line = length (leading ns) + 1; before = kept (leading ns) }))
 
 -- a date a line, which LF ends; 201 lines are looked at
 unfoldable pub holidays_of : List ℕ → Result Dates BadLine

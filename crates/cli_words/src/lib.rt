@@ -16,10 +16,11 @@ pub struct Dates {
     pub dates: [u32; 201],
 }
 
-// The number of a line of it that isn't six digits.
+// The number of a line of it that isn't six digits, and the dates of the lines before it.
 #[derive(Clone, Copy, Debug, PartialEq, Eq)]
 pub struct BadLine {
     pub line: u32,
+    pub before: Dates,
 }
 
 // A word of `low` to `high` digits.
@@ -203,6 +204,7 @@ pub fn holidays(s: &[u8]) -> Result<Dates, BadLine>
         let Some(date) = date_in(line) else {
             return Err(BadLine {
                 line: count as u32 + 1,
+                before: Dates { count, dates },
             });
         };
         dates[count] = date;
