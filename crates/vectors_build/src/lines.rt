@@ -2,7 +2,8 @@
 use crate::hand::{Hand, Lengths, part};
 use crate::reading::Asked;
 use vectors_words::{
-    append, append_hex, beginning, behind, bytes_at, copy_at, decimal_at, word_at, write_over,
+    append, append_hex, beginning, behind, bytes_at, command, copy_at, decimal_at, word_at,
+    write_over,
 };
 
 // ---- what is in hand on the customer's side
@@ -79,7 +80,7 @@ fn back(own: &mut [u8], kept: &[u8], h: Hand) -> Hand {
 
 // open · enter · values
 fn obey_keys(held: &mut [u8], line: &[u8]) {
-    match word_at(line, 0) {
+    match command(line) {
         b"open" => vectors_desks::open(held, line),
         b"enter" => vectors_desks::enter(held, line),
         _ => vectors_desks::values(held, line),
@@ -146,7 +147,7 @@ fn sizes(line: &[u8]) {
 
 // A line on the customer's side; any other line is a comment, which is written as it is.
 fn obey_own(own: &mut [u8], kept: &mut [u8], h: Hand, line: &[u8]) -> Hand {
-    match word_at(line, 0) {
+    match command(line) {
         b"esi" => return crate::builds::esi(own, h, line),
         b"suo" => return crate::builds::suo(own, h, line),
         b"var" => return crate::builds::var(own, h, line),
@@ -175,7 +176,7 @@ fn obey_own(own: &mut [u8], kept: &mut [u8], h: Hand, line: &[u8]) -> Hand {
 
 // A line on the file in hand.
 fn obey_file(own: &mut [u8], kept: &mut [u8], file: &mut [u8], h: Hand, line: &[u8]) -> Hand {
-    match word_at(line, 0) {
+    match command(line) {
         b"send" => send(own, file, h, b"\n"),
         b"sendcr" => send(own, file, h, b"\r\n"),
         b"part" => send_part(own, file, h, line),
@@ -201,7 +202,7 @@ pub fn obey(
     h: Hand,
     line: &[u8],
 ) -> Hand {
-    match word_at(line, 0) {
+    match command(line) {
         b"read" => {
             let asked = Asked {
                 ending: false,

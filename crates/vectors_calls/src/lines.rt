@@ -56,7 +56,7 @@ fn registered(t: &[u8], line: &[u8], refusal: u32) {
 
 // A call that keeps the table, the table kept, or that again; any other line is a comment, which is written as it is.
 fn obey_table(t: &mut [u8], kept: &mut [u8], line: &[u8]) {
-    match vectors_words::word_at(line, 0) {
+    match vectors_words::command(line) {
         b"setup" => {
             let refusal = crate::registering::set_up(t, line);
             registered(t, line, refusal);
@@ -88,7 +88,7 @@ fn obey_table(t: &mut [u8], kept: &mut [u8], line: &[u8]) {
 
 // Does what a line says.
 pub fn obey(t: &mut [u8], kept: &mut [u8], file: &mut [u8], h: Hand, line: &[u8]) -> Hand {
-    match vectors_words::word_at(line, 0) {
+    match vectors_words::command(line) {
         b"open" => crate::reading::open(t, h, line),
         b"size" => sized(h, line),
         b"read" => crate::reading::once(t, file, h, read_of(line), line),

@@ -1,6 +1,6 @@
 // A script's lines, and what each of them does.
 use vectors_words::{
-    beginning, behind, bytes_at, copy_at, decimal_at, text_at, word_at, write_over,
+    beginning, behind, bytes_at, command, copy_at, decimal_at, text_at, write_over,
 };
 
 // How many bytes are lent as a desk and for what was sent, and how many characters the reply has.
@@ -68,7 +68,7 @@ fn message(said: &mut [u8], at: usize, line: &[u8]) -> usize {
 
 fn obey_reply(reply: &mut [u8], h: Hand, line: &[u8]) -> Hand {
     let n = decimal_at(line, 1) as usize;
-    match word_at(line, 0) {
+    match command(line) {
         b"put" => {
             copy_at(reply, n, text_at(line, 2));
             h
@@ -118,7 +118,7 @@ fn obey_check(pte: bool, held: &mut [u8], sent: &[u8], reply: &[u8], h: Hand, li
 }
 
 fn obey_keys(held: &mut [u8], line: &[u8]) {
-    match word_at(line, 0) {
+    match command(line) {
         b"open" => vectors_desks::open(held, line),
         b"enter" => vectors_desks::enter(held, line),
         _ => vectors_desks::values(held, line),
@@ -143,7 +143,7 @@ pub fn obey(
     h: Hand,
     line: &[u8],
 ) -> Hand {
-    match word_at(line, 0) {
+    match command(line) {
         b"held" => return with_held(h, bytes_at(held, line, 1)),
         b"into" => return with_sent(h, bytes_at(sent, line, 1)),
         b"spoil" => write_over(held, line),

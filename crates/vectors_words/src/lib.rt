@@ -36,6 +36,16 @@ pub fn word_at(line: &[u8], number: usize) -> &[u8] {
     line.split(|&b| b == b' ').nth(number).unwrap_or(b"")
 }
 
+// What a line's first word names: its last eight characters, without the bytes 0 before them, which tell it from others.
+pub fn command(line: &[u8]) -> &[u8] {
+    let word = word_at(line, 0);
+    let last = &word[word.len().saturating_sub(8)..];
+    match last.iter().position(|&b| b != 0) {
+        Some(start) => &last[start..],
+        None => b"",
+    }
+}
+
 // The line from the word of that number on, blanks and all.
 pub fn text_at(line: &[u8], number: usize) -> &[u8] {
     line.splitn(number.saturating_add(1), |&b| b == b' ')
