@@ -110,9 +110,12 @@ fn refused(refusal: u32, session: session::Session) -> Answer
 pub fn reading_refusal(t: &[u8], s: session::Session, room: &[u8]) -> Result<(), Refusal>
     ensures { code_of result ≡ lowest (reading_refusals s t.now room.now) }
 {
+    // The room is looked at first, before all of the table is.
+    if room.len() < 317 {
+        return Err(Refusal::NoRoom);
+    }
     let day = table::day(t);
     refusals::first_of(&[
-        (room.len() < 317, Refusal::NoRoom),
         (!table::is_table(t), Refusal::NoTable),
         (session::is_read_refused(s, day.yymmdd), Refusal::NoSession),
     ])
@@ -175,9 +178,12 @@ fn answered(session: session::Session, length: usize, finished: bool) -> Answer
 pub fn ending_refusal(t: &[u8], s: session::Session, room: &[u8]) -> Result<(), Refusal>
     ensures { code_of result ≡ lowest (ending_refusals s t.now room.now) }
 {
+    // The room is looked at first, before all of the table is.
+    if room.len() < 317 {
+        return Err(Refusal::NoRoom);
+    }
     let day = table::day(t);
     refusals::first_of(&[
-        (room.len() < 317, Refusal::NoRoom),
         (!table::is_table(t), Refusal::NoTable),
         (session::is_end_refused(s, day.yymmdd), Refusal::NoSession),
     ])

@@ -128,8 +128,10 @@ fn is_adding_out(a: Adding) -> bool
 pub fn adding_refusal(t: &[u8], a: Adding) -> Result<(), Refusal>
     ensures { code_of result ≡ adding_answer t.now a }
 {
+    if !table::is_table(t) {
+        return Err(Refusal::NoTable);
+    }
     refusals::first_of(&[
-        (!table::is_table(t), Refusal::NoTable),
         (refusals::is_bad_day(t, a.today), Refusal::BadDate),
         (refusals::is_full(t), Refusal::TableFull),
         (refusals::is_there(t, a.who), Refusal::AlreadyThere),
@@ -187,9 +189,11 @@ pub fn add(t: &mut [u8], a: Adding) -> Result<(), Refusal>
 pub fn entering_refusal(t: &[u8], e: Entering) -> Result<(), Refusal>
     ensures { code_of result ≡ entering_answer t.now e }
 {
+    if !table::is_table(t) {
+        return Err(Refusal::NoTable);
+    }
     let k = table::named(t, e.who).transport;
     refusals::first_of(&[
-        (!table::is_table(t), Refusal::NoTable),
         (refusals::is_bad_day(t, e.today), Refusal::BadDate),
         (!refusals::is_there(t, e.who), Refusal::Unknown),
         (refusals::is_even_part(e.part1, e.part2), Refusal::EvenPart),
@@ -229,9 +233,11 @@ pub fn enter(t: &mut [u8], e: Entering) -> Result<(), Refusal>
 pub fn ordering_refusal(t: &[u8], o: Ordering) -> Result<(), Refusal>
     ensures { code_of result ≡ ordering_answer t.now o }
 {
+    if !table::is_table(t) {
+        return Err(Refusal::NoTable);
+    }
     let k = table::named(t, o.who).working;
     refusals::first_of(&[
-        (!table::is_table(t), Refusal::NoTable),
         (refusals::is_bad_day(t, o.today), Refusal::BadDate),
         (!refusals::is_there(t, o.who), Refusal::Unknown),
         (
