@@ -76,9 +76,9 @@ fn shown(text: [u8; 17]) -> [u8; 17]
     text.map(shown_byte)
 }
 
-/// A part put at the end of a text that has room for it.
-pub fn put<const N: usize>(out: &mut ArrayVec<u8, N>, part: &[u8])
-    requires { array_vec_len out.old + length part.now ≤ N }
+// A part put at the end of a text that has room for it.
+fn put(out: &mut Said, part: &[u8])
+    requires { array_vec_len out.old + length part.now ≤ 53 }
     ensures items { out.new.items ≡ out.old.items ++ part.now }
     ensures len { array_vec_len out.new ≡ array_vec_len out.old + length part.now }
 {

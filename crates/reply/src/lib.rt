@@ -2,7 +2,7 @@
 
 #![tactic(auto)]
 
-ghost use Rattle.std.specs.Prelude.{◌≡◌, [], ◌++◌, ◌+◌, ◌≤◌, take, replicate};
+ghost use Rattle.std.specs.Prelude.{◌≡◌, [], ◌++◌, ◌+◌, ◌≤◌, length, take, replicate};
 ghost use Rattle.arrayvec.specs.ArrayVec.{array_vec_len};
 ghost use Rattle.ground.specs.Choice.{pick};
 ghost use Rattle.text.specs.Characters.{blank};
@@ -12,7 +12,6 @@ ghost use Rattle.reply.specs.Reply.{clock_text, notice_of, hex_or, sealed_flag, 
 ghost use Rattle.reply.specs.Reply.{body_fields, checksum_key, enclosed_key, reply_of, replied, written_length};
 
 use arrayvec::ArrayVec;
-use notice::put;
 
 // What a reply answers: ESI or PTE, bare or full, code, field and its contents, the opening's time, the bank and its software, the message
 // (a frame's SUO) and the one that closed it (the VAR), the working key of the message's generation, its transport key, and the key to
@@ -36,6 +35,15 @@ pub struct Answering {
 
 // A reply on its way into the room, field after field. Each function below puts its part at the end.
 type Reply = ArrayVec<u8, 317>;
+
+// kept apart from `notice`'s: one for both would be public, and would ask its callers for room
+fn put(out: &mut Reply, part: &[u8])
+    requires { array_vec_len out.old + length part.now ≤ 317 }
+    ensures items { out.new.items ≡ out.old.items ++ part.now }
+    ensures len { array_vec_len out.new ≡ array_vec_len out.old + length part.now }
+{
+    let _full = out.try_extend_from_slice(part);
+}
 
 // The lowest digits of a number.
 fn digits<const N: usize>(x: u32) -> [u8; N]
@@ -208,14 +216,21 @@ fn composed(a: &Answering) -> Reply
     out
 }
 
-// A reply written over the start of the room, and its length; nothing where the room is too short.
+// How long a reply is.
+fn length_of(pte: bool) -> usize
+    ensures { result ≡ pick pte 317 237 }
+{
+    if pte { 317 } else { 237 }
+}
+
+// A reply written over the start of the room, and its length; nothing is composed where the room is too short.
 pub fn write(out: &mut [u8], a: Answering) -> usize
     ensures { (result ≡ written_length a out.old) × (out.new ≡ replied a out.old) }
 {
-    let reply = composed(&a);
-    if out.len() < reply.len() {
+    let length = length_of(a.pte);
+    if out.len() < length {
         return 0;
     }
-    text::copy(out, &reply);
-    reply.len()
+    text::copy(out, &composed(&a));
+    length
 }
