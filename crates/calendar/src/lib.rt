@@ -5,7 +5,7 @@
 ghost use Rattle.std.specs.Prelude.{◌≡◌, ◌+◌, ◌<◌};
 ghost use Rattle.calendar.specs.Dates.{leap, days_in, days_in_year, real_time, place_in_order, is_real, is_before, year_of, month_of, day_of, years_before};
 ghost use Rattle.calendar.specs.Dates.{months_before, day_number, in_year, date_of, later};
-ghost use Rattle.calendar.specs.Banking.{weekday, banking_day, too_old, first_good, earliest_good};
+ghost use Rattle.calendar.specs.Banking.{weekday, banking_day, more_than, too_old, first_good, earliest_good};
 
 // A date as it is written, yymmdd. The order of dates is `before`, and not that of the numbers.
 #[derive(Clone, Copy, Debug, PartialEq, Eq)]
@@ -136,6 +136,13 @@ impl BankingDays {
     {
         BankingDays(self.0 + 1)
     }
+
+    // Whether these are more banking days than the others.
+    pub fn is_more_than(self, other: BankingDays) -> bool
+        ensures { result ≡ more_than self other }
+    {
+        self > other
+    }
 }
 
 // The first day that is not too old on day t: back from t until a sixth banking day is met.
@@ -148,7 +155,7 @@ fn first_good(t: u64, holidays: &[u32]) -> u64
     for k in (1..=t).rev() {
         if is_banking(k, holidays) {
             met = met.next();
-            if met > TOO_OLD_AFTER {
+            if met.is_more_than(TOO_OLD_AFTER) {
                 return k;
             }
         }
@@ -235,7 +242,7 @@ impl Date {
         for k in self.day_number()..today.day_number() {
             if is_banking(k + 1, holidays) {
                 met = met.next();
-                if met > TOO_OLD_AFTER {
+                if met.is_more_than(TOO_OLD_AFTER) {
                     return true;
                 }
             }
