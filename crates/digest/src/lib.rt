@@ -111,9 +111,9 @@ fn fed(table: &[u32; 512], keys: [u64; 16], s: State, bytes: &[u8]) -> State
 fn solid_length(bytes: &[u8]) -> usize
     ensures { (result ≤ length bytes.now) × (take result bytes.now ≡ stripped bytes.now) }
 {
-    for n in (1..=bytes.len()).rev() {
-        if bytes[n - 1] != b' ' {
-            return n;
+    for last in (0..bytes.len()).rev() {
+        if bytes[last] != b' ' {
+            return last + 1;
         }
     }
     0

@@ -2,5 +2,5 @@ use Rattle.std.proofs.Common.{◌≡◌, ◌≤◌, length, take}
 use Rattle.digest.specs.Kept.{stripped}
 use Rattle.digest.proofs.solid_length.Given as goal
 
-abbrev pub invariant-loop-n : goal.invariant-loop-n
-invariant-loop-n l = (l.n ≤ length l.bytes) × (stripped (take l.n l.bytes) ≡ stripped l.bytes)
+abbrev pub invariant-loop-last : goal.invariant-loop-last
+invariant-loop-last l = (l.last ≤ length l.bytes) × (stripped (take l.last l.bytes) ≡ stripped l.bytes)
