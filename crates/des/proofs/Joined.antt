@@ -15,7 +15,7 @@ use Rattle.des.specs.Des.{permute, box, substitute_from, mixed, feistel, cipher_
 use Rattle.des.specs.Joined.{joined_entry, joined_box, joined_from, joined, entries_from, joined_mixed, joined_rounds, joined_by, between_by}
 use Rattle.des.proofs.Linear.{lin_permute, lin_zero}
 use Rattle.des.proofs.Boxes.{box-lt}
-use Rattle.des.proofs.Inverse.{initial-final}
+use Rattle.des.proofs.Inverse.{initial-final, feistel-lt}
 
 -- ---- an entry of the table
 
@@ -130,6 +130,12 @@ joined-cipher ks = fun_ext (joined_by_lem ks)
 pub between_by_lem : (t ks : List ℕ) (x : ℕ) → permute final 64 (between_by t ks (permute initial 64 x)) ≡ joined_by t ks x
 unfolding between_by joined_by
 between_by_lem t ks x = refl
+
+pub between_lt : (ks : List ℕ) (y : ℕ) → y < 2 ^ 64 → between_by joined ks y < 2 ^ 64
+unfolding between_by
+between_lt ks y h =
+    subst⁻¹ (λ (x : ℕ). x < 2 ^ 64) (joined_rounds_lem ks (y / 2 ^ 32) (y % 2 ^ 32))
+    (feistel-lt boxes ks (y / 2 ^ 32) (y % 2 ^ 32) (omega arith) (omega arith))
 
 -- the halves of the next block are those before it with the initial permutation of what is added
 pub chained : (y m : ℕ) → y < 2 ^ 64 → permute initial 64 (bit_xor (permute final 64 y) m) ≡ bit_xor y (permute initial 64 m)

@@ -175,5 +175,10 @@ schedule_turned key =
     ap (λ (x : ℕ). map (permute choice2 56) (turned_from shifts x)) (sym (split p 28))
     ∙ sym (keys_turned shifts refl (p / 2 ^ 28) (p % 2 ^ 28) (omega arith) (omega arith))
 
+pub turned-length : (ss : List ℕ) (x : ℕ) → length (turned_from ss x) ≡ length ss
+unfolding turned_from
+turned-length [] x = refl
+turned-length (s ∷ ss) x = ap suc (turned-length ss (turned s x))
+
 pub choice1_lt : (key : ℕ) → permute choice1 64 key < 2 ^ 56
 choice1_lt key = permute-lt choice1 64 key
