@@ -2,20 +2,23 @@
 use crate::parts::Reply;
 use cli_texts::sheet::Sheet;
 
-// The bank's floor and name; the sender's data types; the generation of the current working key after a reply, none where the sender is
-// no customer, and whether it was made for that reply.
+// The bank's floor and name; the sender's data types; the generation of the current working key after a reply, and whether it was
+// made for that reply.
 #[derive(Clone, Copy)]
 pub struct Facts {
     floor: u32,
     bank: [u8; 25],
     types: u32,
-    generation: Option<u32>,
+    generation: u32,
     is_new: bool,
 }
 
-fn generation_in(t: &[u8], who: [u8; 25]) -> Option<u32> {
-    let i = table::find(t, who)?;
-    Some(table::load(t, i).working.generation)
+// The generation of a sender's current working key; 10, which none has, where the sender is no customer.
+fn generation_in(t: &[u8], who: [u8; 25]) -> u32 {
+    match table::find(t, who) {
+        Some(i) => table::load(t, i).working.generation,
+        None => 10,
+    }
 }
 
 fn types_in(t: &[u8], who: [u8; 25]) -> u32 {
@@ -50,9 +53,7 @@ impl Facts {
         s.name(b'F', &self.bank[17..]);
         s.number(b'G', kind as u64);
         s.types(b'H', self.types);
-        if let Some(generation) = self.generation {
-            s.number(b'z', generation as u64);
-        }
+        s.number(b'z', self.generation as u64);
     }
 
     // The text of a reply with a key: a new one, or the current one where the previous was used.
