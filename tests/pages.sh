@@ -54,7 +54,7 @@ refused "longer than 110" 's/^    says    adds a customer/& aaaaaaaaaaaaaaaaaaaa
 # What a function of help.rt says: its n-th text.
 text_of() { # FUNCTION N
     LC_ALL=C awk -v wanted="$1" -v n="$2" '
-    /^pub fn / { at = $3; sub(/[(].*/, "", at); i = 0 }
+    /^pub fn / { at = $3; sub(/[(<].*/, "", at); i = 0 }
     {
         k = 1
         if (!open && at == wanted && (k = index($0, "b\"") + 2) > 2) { open = 1; i++ }

@@ -52,7 +52,7 @@ def twins():
     """Private functions whose name and body stand in an earlier crate or module too."""
     seen = {}
     for path, text in sources():
-        for m in re.finditer(r'^(?:pub )?fn (\w+)(?:<[^>]*>)?\(.*?^\}', text, re.M | re.S):
+        for m in re.finditer(r'^(?:pub )?fn (\w+)(?:<(?:[^<>]|<[^<>]*>)*>)?\(.*?^\}', text, re.M | re.S):
             body = re.sub(r'\s+', ' ', re.sub(r'ensures \{.*?\}\n', '', m.group(0)))
             body = body[body.index('('):]
             key = body

@@ -17,6 +17,20 @@ pub enum Command {
     Help,
 }
 
+// The command of a number in the order of the list, from 1; of every other number the last.
+impl From<u32> for Command {
+    fn from(number: u32) -> Command {
+        match number {
+            1 => Command::Open,
+            2 => Command::Key,
+            3 => Command::Make,
+            4 => Command::Check,
+            5 => Command::Show,
+            _ => Command::Help,
+        }
+    }
+}
+
 // The command that a word names.
 pub fn command_of(word: &[u8]) -> Option<Command> {
     match word {
@@ -40,9 +54,9 @@ pub fn tell_names(rt: &HostRuntime) {
     );
 }
 
-// The words of a command, as the end of a line.
-pub fn words_of(command: Command) -> &'static [u8] {
-    match command {
+// The words of a command, or of its number, as the end of a line.
+pub fn words_of<C: Into<Command>>(command: C) -> &'static [u8] {
+    match command.into() {
         Command::Open =>
             b"open DESK IDENTITY QUALIFIER BANK BANKQUALIFIER SOFTWARE PART1 PART2 CHECK GENERATION K V\n",
         Command::Key => b"key DESK PART1 PART2 CHECK GENERATION\n",
@@ -55,18 +69,19 @@ pub fn words_of(command: Command) -> &'static [u8] {
 }
 
 // The same, to standard error.
-pub fn tell_words(rt: &HostRuntime, command: Command) {
+pub fn tell_words<C: Into<Command>>(rt: &HostRuntime, command: C) {
     say::err(rt, words_of(command));
 }
 
 // Whether there are as many words as the command takes, or what was expected.
-pub fn are_as_many(
+pub fn are_as_many<C: Into<Command>>(
     rt: &HostRuntime,
     words: &Words,
-    command: Command,
+    command: C,
     low: usize,
     high: usize,
 ) -> Result<(), Told> {
+    let command = command.into();
     let are_so = words.are_as_many(rt, Program::Bureau, low, high);
     if are_so.is_err() {
         tell_words(rt, command);
@@ -74,9 +89,9 @@ pub fn are_as_many(
     are_so
 }
 
-// The help of one command.
-pub fn of(command: Command) -> &'static [u8] {
-    match command {
+// The help of one command, or of its number.
+pub fn of<C: Into<Command>>(command: C) -> &'static [u8] {
+    match command.into() {
         Command::Open =>
             b"usage: bureau open DESK IDENTITY QUALIFIER BANK BANKQUALIFIER SOFTWARE PART1
            PART2 CHECK GENERATION K V

@@ -97,14 +97,14 @@ pub fn answer_setup(rt: &HostRuntime, dates: &[u32], refusal: u32) -> Result<Sta
 
 // ---- refusal 12
 
-fn changeover(rt: &HostRuntime, kind: &str, last: Date) -> io::Result<()> {
+fn changeover(rt: &HostRuntime, kind: &[u8], last: Date) -> io::Result<()> {
     let last = last.yymmdd;
-    println!(rt;
-        "refused 12: the changeover from the previous {kind} key is not past; its last day is {last:06}"
-    )
+    print!(rt; "refused 12: the changeover from the previous ")?;
+    say::out(rt, kind)?;
+    println!(rt; " key is not past; its last day is {last:06}")
 }
 
 // The answer line where a changeover of keys of that kind runs to that day.
-pub fn answer_changeover(rt: &HostRuntime, kind: &str, last: Date) -> Result<Status, Told> {
+pub fn answer_changeover(rt: &HostRuntime, kind: &[u8], last: Date) -> Result<Status, Told> {
     say::refused_as(rt, Lentilpot, changeover(rt, kind, last))
 }

@@ -50,9 +50,8 @@ impl Facts {
         s.name(b'F', &self.bank[17..]);
         s.number(b'G', kind as u64);
         s.types(b'H', self.types);
-        if let Some(generation) = self.generation {
-            s.number(b'z', generation as u64);
-        }
+        // 10 is no key's generation.
+        s.number(b'z', self.generation.map_or(10, u64::from));
     }
 
     // The text of a reply with a key: a new one, or the current one where the previous was used.

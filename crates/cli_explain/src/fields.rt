@@ -127,10 +127,14 @@ pub fn put_named(s: &mut Sheet, r: &Reply, field: Option<Field>) {
     }
 }
 
-// Name and contents, the kind of the message that a fault of form is of, and what stands in the SUO and in the VAR.
+// Name and contents, the kind of the message that a fault of form is of, and what stands in the SUO and in the VAR; of no field the name is
+// blank and the quotes are empty.
 pub fn put_heard(s: &mut Sheet, h: &Heard, r: &Reply, field: Option<Field>) {
     s.part(b'k', &h.faulty[2..5]);
     let Some(field) = field else {
+        s.quoted(b'h', b"");
+        s.quoted(b'u', b"");
+        s.quoted(b'v', b"");
         return;
     };
     put_name(s, field);

@@ -95,7 +95,7 @@ fn step(
     now: &mut Taken,
     input: &[u8],
 ) -> Result<Answer, Told> {
-    if explanations.is_some() {
+    if let Some(explanations) = explanations {
         let n = cli_passed::cut_at(input);
         return explained_step(rt, out, explanations, replies, t, now, &input[..n]);
     }
@@ -112,7 +112,7 @@ fn step(
 fn explained_step(
     rt: &HostRuntime,
     out: &mut Growing,
-    explanations: &mut Option<Growing>,
+    explanations: &mut Growing,
     replies: &[u8],
     t: &mut [u8],
     now: &mut Taken,

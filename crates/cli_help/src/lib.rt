@@ -19,6 +19,22 @@ pub enum Command {
     Help,
 }
 
+// The command of a number in the order of the list, from 1; of every other number the last.
+impl From<u32> for Command {
+    fn from(number: u32) -> Command {
+        match number {
+            1 => Command::Setup,
+            2 => Command::Add,
+            3 => Command::Key,
+            4 => Command::Order,
+            5 => Command::Receive,
+            6 => Command::Show,
+            7 => Command::Explain,
+            _ => Command::Help,
+        }
+    }
+}
+
 // The command that a word names.
 pub fn command_of(word: &[u8]) -> Option<Command> {
     match word {
@@ -44,9 +60,9 @@ pub fn tell_names(rt: &HostRuntime) {
     );
 }
 
-// The words of a command, as the end of a line.
-pub fn words_of(command: Command) -> &'static [u8] {
-    match command {
+// The words of a command, or of its number, as the end of a line.
+pub fn words_of<C: Into<Command>>(command: C) -> &'static [u8] {
+    match command.into() {
         Command::Setup => b"setup TABLE BANK QUALIFIER SOFTWARE FLOOR K V [HOLIDAYS]\n",
         Command::Add =>
             b"add TABLE DATE IDENTITY QUALIFIER PART1 PART2 CHECK GENERATION TYPES AGREED LEAVE [LENGTH] [--later]\n",
@@ -62,18 +78,19 @@ pub fn words_of(command: Command) -> &'static [u8] {
 }
 
 // The same, to standard error.
-pub fn tell_words(rt: &HostRuntime, command: Command) {
+pub fn tell_words<C: Into<Command>>(rt: &HostRuntime, command: C) {
     say::err(rt, words_of(command));
 }
 
 // Whether there are as many words as the command takes, or what was expected.
-pub fn are_as_many(
+pub fn are_as_many<C: Into<Command>>(
     rt: &HostRuntime,
     words: &Words,
-    command: Command,
+    command: C,
     low: usize,
     high: usize,
 ) -> Result<(), Told> {
+    let command = command.into();
     let are_so = words.are_as_many(rt, Program::Lentilpot, low, high);
     if are_so.is_err() {
         tell_words(rt, command);
@@ -81,9 +98,9 @@ pub fn are_as_many(
     are_so
 }
 
-// The help of one command.
-pub fn of(command: Command) -> &'static [u8] {
-    match command {
+// The help of one command, or of its number.
+pub fn of<C: Into<Command>>(command: C) -> &'static [u8] {
+    match command.into() {
         Command::Setup =>
             b"usage: lentilpot setup TABLE BANK QUALIFIER SOFTWARE FLOOR K V [HOLIDAYS]
 

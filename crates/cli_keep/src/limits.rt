@@ -47,7 +47,11 @@ fn customer_of(t: &[u8], who: [u8; 25]) -> Option<customer::Customer> {
     Some(table::load(t, i))
 }
 
-fn answer_pair(rt: &HostRuntime, kind: &str, k: Option<customer::KeyPair>) -> Result<Status, Told> {
+fn answer_pair(
+    rt: &HostRuntime,
+    kind: &[u8],
+    k: Option<customer::KeyPair>,
+) -> Result<Status, Told> {
     match k.and_then(|k| k.previous) {
         Some(c) => cli_days::answer_changeover(rt, kind, c.last),
         None => say::answer(rt, Lentilpot, 12),
@@ -55,9 +59,9 @@ fn answer_pair(rt: &HostRuntime, kind: &str, k: Option<customer::KeyPair>) -> Re
 }
 
 pub fn answer_transport(rt: &HostRuntime, t: &[u8], who: [u8; 25]) -> Result<Status, Told> {
-    answer_pair(rt, "transport", customer_of(t, who).map(|c| c.transport))
+    answer_pair(rt, b"transport", customer_of(t, who).map(|c| c.transport))
 }
 
 pub fn answer_working(rt: &HostRuntime, t: &[u8], who: [u8; 25]) -> Result<Status, Told> {
-    answer_pair(rt, "working", customer_of(t, who).map(|c| c.working))
+    answer_pair(rt, b"working", customer_of(t, who).map(|c| c.working))
 }

@@ -99,10 +99,11 @@ impl Passed {
     pub fn after(&self, input: &[u8], taken: usize, reply: &[u8]) -> Passed {
         let line = self.line_after(lines_before_last(input, taken));
         Passed {
+            bytes: self.bytes.wrapping_add(taken as u64),
             lines: self.lines.wrapping_add(lines_in(input, taken)),
             line: if taken == 0 { self.line } else { line },
             count: self.count.with(reply),
-            ..self.plainly_after(taken)
+            ..*self
         }
     }
 
@@ -110,7 +111,8 @@ impl Passed {
     pub fn plainly_after(&self, taken: usize) -> Passed {
         Passed {
             bytes: self.bytes.wrapping_add(taken as u64),
-            ..*self
+            count: self.count,
+            ..Passed::begun()
         }
     }
 

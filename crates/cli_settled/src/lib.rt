@@ -38,11 +38,11 @@ fn session_before(t: &mut [u8], s: Session, input: &[u8], n: usize) -> Session {
     }
 }
 
-// Explains a reply, if there is one and that is asked for, by the session just before the byte that settled it: the same read without that
-// byte, on the table as it was.
+// Explains a reply, if there is one, by the session just before the byte that settled it: the same read without that byte, on the
+// table as it was.
 pub fn is_step_explained(
     rt: &HostRuntime,
-    explanations: &mut Option<Growing>,
+    explanations: &mut Growing,
     replies: &[u8],
     before: &mut [u8],
     t: &[u8],
@@ -60,20 +60,11 @@ pub fn is_step_explained(
         return Err(Told);
     }
     let held = session_before(before, s, input, taken - 1);
-    is_end_explained(
-        rt,
-        explanations,
-        replies,
-        before,
-        t,
-        held,
-        marked,
-        at,
-        reply,
-    )
+    let written = cli_explain::tell(explanations, before, t, held, reply, marked.count, at);
+    is_told(rt, written, replies)
 }
 
-// The same of a reply that the file's end gives: by the session before it.
+// The same of a reply that the file's end gives, where explanations are asked for.
 pub fn is_end_explained(
     rt: &HostRuntime,
     explanations: &mut Option<Growing>,
