@@ -217,6 +217,7 @@ fn composed(a: &Answering) -> Reply
 }
 
 // How long a reply is.
+#[tactic(auto, unfolding(ground::specs::Choice::pick))]
 fn length_of(pte: bool) -> usize
     ensures { result ≡ pick pte 317 237 }
 {
